@@ -1,0 +1,12 @@
+// The table of rights and its monitor.
+pub mod cells;
+pub mod column;
+pub mod draft;
+pub mod grid;
+pub mod step;
+pub mod table;
+
+pub use draft::TableDraft;
+pub use step::Done;
+pub use step::Step;
+pub use table::Table;

@@ -1,0 +1,15 @@
+use mathlib.Core.Path.{refl}
+use Rattle.rights.specs.Sets.{has, add, either, inside, below}
+use Rattle.flags.specs.Flags.{counted-give}
+use Rattle.points.proofs.points_stand.Needs as need
+
+pub returns : need.returns
+unfolding has add either inside below counted-give
+returns c = record {
+  own-adds = refl;
+  own-ok-adds = refl;
+  flag-3-gives = refl;
+  flag-1-gives = refl;
+  empty-need = refl;
+  empty-need-number = refl;
+}

@@ -1,0 +1,2 @@
+pub mod Review
+pub mod Points

@@ -1,0 +1,4 @@
+mod Turns
+mod Gathering
+mod Numbers
+mod Pairs

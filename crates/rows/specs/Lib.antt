@@ -1,0 +1,5 @@
+pub mod Lists
+pub mod Rules
+pub mod Drafts
+pub mod Views
+pub mod Books
