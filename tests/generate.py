@@ -3,7 +3,7 @@
 
 The first part is written by hand: each refusal of each call, and both sides of each limit. A line of it that is given with
 its answer is compared with the model at once. The second part is random, from a fixed seed: small schemes and tables, and
-steps on them, valid and not.
+steps on them, valid and not. The third part is random too: questions on small tables, before and after steps.
 """
 
 import itertools
@@ -14,9 +14,11 @@ import model
 
 HUGE = 2 ** 64 - 1
 
-# Of the random part.
+# Of the random parts.
 SEED = 1
-ROUNDS = 125
+ROUNDS = 90
+QUESTION_SEED = 2
+QUESTION_ROUNDS = 22
 
 
 class Script:
@@ -85,10 +87,10 @@ def creation(u, o, gets):
 EVERY_CALL = [
     "right", "subject-type", "object-type", "owner 0", "creation 0 0 : 0", "transform 0 0 : 0 : 0",
     "grant 0 0 0 : 0 : 0", "fix", "subject 0", "object 0", "hold 0 0 0", "start", "create 0 0", "add 0 0 0",
-    "give 0 0 0 0", "revoke 0 0 0 0", "cell 0 0", "dump",
+    "give 0 0 0 0", "revoke 0 0 0 0", "cell 0 0", "dump", "can 0 0 0", "can-new 0 0 0", "can 0 0 0 2049",
 ]
 
-STEPS = ["create 0 0", "add 0 0 0", "give 0 1 0 0", "revoke 0 1 0 0"]
+STEPS = ["create 0 0", "add 0 0 0", "give 0 1 0 0", "revoke 0 1 0 0", "can 0 0 3", "can-new 0 0 3", "can 9 9 9 0"]
 
 
 def missing_parts(script):
@@ -108,6 +110,8 @@ def missing_parts(script):
     script.note("the book without a declaration permits nothing")
     script.asks(["create 0 0", "add 0 0 3", "give 0 1 0 3"], "refused 21")
     script.ask("revoke 0 0 0 3", "refused 22")
+    script.ask("can 0 0 3", "can 0")
+    script.asks(["can 1 0 3", "can 0 0 2", "can-new 0 0 3"], "never")
 
 
 def bad_words(script):
@@ -652,10 +656,219 @@ def one_table_two_books(script):
     script.ask("dump", "0/0{2} 0/1{0 1} 0/2{30 31} 1/0{1} 1/2{0 31}")
 
 
+# --- written by hand: questions --------------------------------------------------------------------------------------
+
+
+def can(*steps):
+    return " : ".join(("can %d" % len(steps),) + steps)
+
+
+def walk(script, question):
+    """Takes the steps that the question shows, and asks it again."""
+    found = script.ask(question)
+    steps = found.split(" : ")[1:]
+    for step in steps:
+        script.ask(step, None if step.startswith("create") else "added 1")
+    if steps and question.startswith("can "):
+        script.ask(question, "can 0")
+
+
+def review_book(script):
+    """Rights own 0, seen 1, ok 2, print 3; types author 0, checker 1; object type paper 0."""
+    new_book(script, 4, 2, 1)
+    script.ask("owner 0", "ok")
+    script.ask(creation(0, 0, [0]), "ok")
+    script.ask(grant(0, 1, 0, [0], [1]), "ok")
+    script.ask(grant(1, 0, 0, [1], [2]), "ok")
+    script.ask(transform(0, 0, [0, 2], [3]), "ok")
+    script.ask("fix", "ok")
+
+
+def questions_by_hand(script):
+    script.note("a paper's review: an author prints a paper of its own once a checker has seen it")
+    review_book(script)
+    new_table(script, [0, 1, 0], [0], [(0, 0, 0)])
+    script.ask("can 0 0 0", can())
+    script.ask("can 0 0 3", can("give 0 1 0 1", "give 1 0 0 2", "add 0 0 3"))
+    script.ask("can 2 0 3", "never")
+    script.ask("can 2 0 2", can("give 0 1 0 1", "give 1 0 0 2", "add 0 0 3", "give 1 2 0 2"))
+    script.ask("can-new 2 0 3", can("create 2 0", "give 2 1 1 1", "give 1 0 1 2", "give 1 2 1 2", "add 2 1 3"))
+    script.note("the first creator whose column reaches the holding, and no earlier one")
+    script.ask("can-new 0 0 0", can("create 0 0"))
+    script.ask("can-new 2 0 0", can("create 2 0"))
+    script.ask("can-new 1 0 1", can("create 0 0", "give 0 1 1 1"))
+    script.ask("can-new 1 0 2", "never")
+    script.ask("can-new 0 1 0", "never")
+    script.ask("dump", "0/0{0}")
+    script.note("the shown run, taken step by step")
+    walk(script, "can 0 0 3")
+    walk(script, "can-new 2 0 3")
+    script.ask("can 2 1 3", can())
+    script.ask("dump")
+
+
+def question_faults(script):
+    script.note("questions: 10, then 24")
+    review_book(script)
+    new_table(script, [0, 1, 0], [0], [(0, 0, 0)])
+    for places in ("", " 2049", " 2050", " 4096", " 2048", " 1", " 0"):
+        short = places in (" 2048", " 1", " 0")
+        for numbers in ("3 0 0", "%d 0 0" % HUGE, "0 1 0", "0 %d 0" % HUGE, "0 0 32", "0 0 %d" % HUGE, "3 1 32"):
+            script.ask("can %s%s" % (numbers, places), "refused 10")
+        for numbers in ("3 0 0", "%d 0 0" % HUGE, "0 16 0", "0 %d 0" % HUGE, "0 0 32", "0 0 %d" % HUGE, "3 16 32"):
+            script.ask("can-new %s%s" % (numbers, places), "refused 10")
+        script.ask("can 0 0 0" + places, "refused 24" if short else "can 0")
+        script.ask("can 2 0 31" + places, "refused 24" if short else "never")
+        script.ask("can 0 0 3" + places, "refused 24" if short else None)
+        script.ask("can-new 0 0 0" + places, "refused 24" if short else "can 1 : create 0 0")
+        script.ask("can-new 0 15 31" + places, "refused 24" if short else "never")
+        script.ask("can-new 2 0 3" + places, "refused 24" if short else None)
+    script.note("questions that cannot be read")
+    script.asks(["can", "can 0", "can 0 0", "can 0 0 0 2049 0", "can 0 0 x", "can 0 0 0 x", "can 0 0 0 4097",
+                 "can 0 0 0 %d" % HUGE, "can 9 9 9 4097", "can-new", "can-new 0 0", "can-new 0 0 0 2049 0",
+                 "can-new 0 0 0 4097", "can-new 0 0 -1", "can_new 0 0 0", "cannew 0 0 0"], "unreadable")
+    script.ask("dump", "0/0{0}")
+    script.note("tables without subjects or objects")
+    new_table(script, [], [0])
+    script.asks(["can 0 0 0", "can-new 0 0 0"], "refused 10")
+    new_table(script, [0], [])
+    script.ask("can 0 0 0", "refused 10")
+    script.ask("can-new 0 0 0", can("create 0 0"))
+
+
+def run_order(script):
+    script.note("receivers by number, for each its transforms before the grants, by giver, then the lowest right")
+    new_book(script, 8, 2, 1)
+    script.ask(transform(0, 0, [0], [2, 1]), "ok")
+    script.ask(transform(1, 0, [7], [6]), "ok")
+    script.ask(grant(0, 0, 0, [0], [5, 4]), "ok")
+    script.ask(grant(0, 1, 0, [4], [7, 3]), "ok")
+    script.ask(grant(1, 0, 0, [3], [3]), "ok")
+    script.ask("fix", "ok")
+    new_table(script, [0, 1, 0], [0], [(0, 0, 0), (2, 0, 0)])
+    script.ask("can 2 0 3", can(
+        "add 0 0 1", "add 0 0 2", "give 2 0 0 4", "give 2 0 0 5", "give 0 1 0 3", "give 1 0 0 3", "give 0 1 0 7",
+        "add 1 0 6", "add 2 0 1", "add 2 0 2", "give 0 2 0 4", "give 0 2 0 5", "give 1 2 0 3"))
+    script.ask("can 2 0 1", can(
+        "add 0 0 1", "add 0 0 2", "give 2 0 0 4", "give 2 0 0 5", "give 0 1 0 3", "give 1 0 0 3", "give 0 1 0 7",
+        "add 1 0 6", "add 2 0 1"))
+    script.asks(["can 2 0 7", "can 0 0 7", "can 0 0 31"], "never")
+    script.note("nobody gives to itself: one subject alone, and then two")
+    new_table(script, [0], [0], [(0, 0, 0)])
+    script.ask("can 0 0 4", "never")
+    script.ask("can 0 0 2", can("add 0 0 1", "add 0 0 2"))
+    new_table(script, [0, 0], [0], [(0, 0, 0)])
+    script.ask("can 0 0 4", "never")
+    script.ask("can 1 0 4", can("add 0 0 1", "add 0 0 2", "give 0 1 0 4"))
+    script.note("a creator is passed over without a creation, and where its column does not reach the holding")
+    new_book(script, 4, 3, 2)
+    script.ask(creation(1, 1, [1]), "ok")
+    script.ask(creation(2, 1, [2, 0]), "ok")
+    script.ask(creation(2, 0, []), "ok")
+    script.ask(grant(2, 0, 1, [2], [3]), "ok")
+    script.ask(grant(1, 2, 1, [1], [1]), "ok")
+    script.ask("fix", "ok")
+    new_table(script, [0, 1, 2, 2], [0, 0, 0])
+    script.ask("can-new 0 1 3", can("create 2 1", "give 2 0 3 3"))
+    script.ask("can-new 3 1 0", can("create 3 1"))
+    script.ask("can-new 3 1 1", can("create 1 1", "give 1 2 3 1", "give 1 3 3 1"))
+    script.asks(["can-new 0 1 1", "can-new 2 0 0", "can-new 0 0 3"], "never")
+    script.note("the other columns do not matter, nor what they hold")
+    new_table(script, [0, 1, 2], [1, 1], [(2, 0, 2), (0, 1, 3)])
+    script.ask("can 0 0 3", can("give 2 0 0 3"))
+    script.ask("can 0 1 3", can())
+    script.ask("can 0 1 2", "never")
+    script.note("a right that was taken can come again, and the mark is not what a run needs")
+    review_book(script)
+    new_table(script, [0, 1], [0], [(0, 0, 0), (1, 0, 1)])
+    script.ask("revoke 0 1 0 1", "taken")
+    script.ask("can 1 0 1", can("give 0 1 0 1"))
+    script.ask("revoke 0 0 0 0", "taken")
+    script.asks(["can 1 0 1", "can 0 0 0"], "never")
+    script.ask("can-new 0 0 3", can("create 0 0", "give 0 1 1 1", "give 1 0 1 2", "add 0 1 3"))
+
+
+def full_questions(script):
+    script.note("63 objects: a new one can come; 64: never, and the objects of the table are asked about as before")
+    review_book(script)
+    new_table(script, [0, 1], [0] * 63, [(0, 62, 0)])
+    script.ask("can-new 0 0 2", can("create 0 0", "give 0 1 63 1", "give 1 0 63 2"))
+    script.ask("create 0 0", "made 63")
+    script.asks(["can-new 0 0 2", "can-new 0 0 0", "can-new 0 15 0", "can-new 1 0 31"], "never")
+    script.asks(["can-new 2 0 0", "can-new 0 16 0", "can-new 0 0 32", "can-new 2 0 0 0"], "refused 10")
+    script.ask("can-new 0 0 0 2048", "refused 24")
+    script.ask("can 0 63 2", can("give 0 1 63 1", "give 1 0 63 2"))
+    script.ask("can 0 62 2", can("give 0 1 62 1", "give 1 0 62 2"))
+    script.ask("can 0 61 2", "never")
+    script.note("the same with a copy-flag book")
+    script.ask("flags 2 0 1 0 0 0 unlimited", "ok")
+    script.ask("can-new 0 0 31", "never")
+    new_table(script, [0, 1], [0] * 63)
+    script.ask("can-new 1 0 31", can("create 0 0", "give 0 1 63 0", "give 0 1 63 1", "give 0 1 63 2", "give 0 1 63 31"))
+
+
+def flag_questions(script):
+    script.note("copy flags: a counted flag runs out, the unlimited one does not")
+    script.ask("flags 3 0 0 0 0 0 counted", "ok")
+    new_table(script, [0, 0, 0], [0], [(2, 0, 2)])
+    script.ask("can 0 0 1", can("give 2 0 0 0", "give 2 0 0 1"))
+    script.ask("can 1 0 0", can("give 2 0 0 0", "give 2 0 0 1", "give 0 1 0 0"))
+    script.asks(["can 0 0 2", "can 2 0 3", "can 0 0 31"], "never")
+    script.ask("can 2 0 0", can("give 2 0 0 0", "give 2 0 0 1", "give 0 1 0 0", "give 2 1 0 1", "give 0 2 0 0"))
+    script.ask("can-new 1 0 3", can("create 1 0"))
+    script.ask("can-new 1 0 31", "never")
+    walk(script, "can 2 0 0")
+    walk(script, "can-new 1 0 0")
+    script.ask("dump")
+    settings = list(itertools.product((1, 2), (0, 1), ("counted", "unlimited"))) + [(30, 1, "unlimited")]
+    for n, strong, fresh in settings:
+        script.note("%d flags, %s, fresh %s" % (n, "strong" if strong else "weak", fresh))
+        script.ask("flags %d 0,1 1,2 0,3 0 %d %s" % (n, strong, fresh), "ok")
+        new_table(script, [0, 1, 2, 3], [0, 1], [(0, 0, n), (3, 0, 1), (0, 1, n)])
+        for s, right in itertools.product(range(4), sorted({0, 1, n, 31})):
+            script.ask("can-new %d 0 %d" % (s, right))
+            script.ask("can %d 0 %d" % (s, right))
+        script.asks(["can 0 1 0", "can-new 0 1 %d" % n], "never")
+
+
+def long_runs(script):
+    script.note("64 subjects: each adds the rights one by one, and the last right of the last subject comes last")
+    new_book(script, 32, 1, 1)
+    script.ask(creation(0, 0, [0]), "ok")
+    for right in range(31):
+        script.ask(transform(0, 0, [right], [right + 1]), "ok")
+    script.ask(grant(0, 0, 0, [0], [0]), "ok")
+    script.ask("fix", "ok")
+    new_table(script, [0] * 64, [0], [(0, 0, 0)])
+    steps = ["add 0 0 %d" % right for right in range(1, 32)]
+    for s in range(1, 64):
+        steps += ["give 0 %d 0 0" % s] + ["add %d 0 %d" % (s, right) for right in range(1, 32)]
+    assert len(steps) == 2047
+    script.ask("can 63 0 31", can(*steps))
+    script.ask("can 63 0 31 2048", "refused 24")
+    script.ask("can 1 0 0", can(*steps[:32]))
+    script.note("never, after all other rights are in the cells")
+    new_table(script, [0] * 63 + [1], [0], [(0, 0, 0)])
+    script.ask("can 63 0 31", "never")
+    script.note("64 subjects that only give: the creator is the last one, and the run has as many steps as one can have")
+    new_book(script, 32, 2, 1)
+    script.ask(creation(1, 0, [31]), "ok")
+    for right in range(32):
+        for u, v in ((0, 0), (0, 1), (1, 0)):
+            script.ask(grant(u, v, 0, [right], [(right + 1) % 32]), "ok")
+    script.ask("fix", "ok")
+    new_table(script, [0] * 63 + [1], [])
+    found = script.ask("can-new 63 0 30")
+    assert found.startswith("can 2048 : create 63 0 : give 63 0 0 0 : give 0 1 0 1 : give 1 0 0 2 : ")
+    assert found.endswith(" : give 0 63 0 30")
+    script.ask("can-new 63 0 30 2048", "refused 24")
+
+
 BY_HAND = [
     missing_parts, bad_words, bad_numbers, bad_flags, declaration_limits, undeclared_numbers, row_limits, all_creations,
     refused_changes_nothing, table_limits, drafts_and_current, steps_by_hand, revokes_by_hand, full_table,
-    last_types_and_rights, flag_counts, flag_gifts, flag_types, flag_strength, one_table_two_books,
+    last_types_and_rights, flag_counts, flag_gifts, flag_types, flag_strength, one_table_two_books, questions_by_hand,
+    question_faults, run_order, full_questions, flag_questions, long_runs,
 ]
 
 
@@ -808,12 +1021,103 @@ def random_part(script, seed, rounds):
             random_steps(script, dice, rights, object_types)
 
 
+def question_rows(script, dice):
+    """A book of few types and many rows that need little, so that runs are long."""
+    rights, subject_types, object_types = dice.random.choice([(3, 1, 1), (4, 2, 1), (4, 2, 1), (5, 2, 2), (6, 3, 1)])
+    new_book(script, rights, subject_types, object_types)
+    if dice.chance(0.7):
+        script.ask("owner %d" % dice.random.randrange(rights), "ok")
+    for u, o in itertools.product(range(subject_types), range(object_types)):
+        if dice.chance(0.6):
+            script.ask(creation(u, o, dice.random.sample(range(rights), dice.random.choice([0, 1, 1, 2]))), "ok")
+    for _ in range(dice.random.randint(rights, 2 * rights + 2)):
+        u, v = dice.random.randrange(subject_types), dice.random.randrange(subject_types)
+        o = dice.random.randrange(object_types)
+        need = dice.random.sample(range(rights), dice.random.choice([1, 1, 1, 2, 2]))
+        gives = dice.random.sample(range(rights), dice.random.choice([1, 1, 1, 2]))
+        script.ask(transform(u, o, need, gives) if dice.chance(0.35) else grant(u, v, o, need, gives), "ok")
+    script.ask("fix", "ok")
+    return rights, subject_types, object_types
+
+
+def question_table(script, dice, rights, subject_types, object_types):
+    subjects = [dice.random.randrange(subject_types) for _ in range(dice.random.choice([2, 3, 3, 4, 5, 6]))]
+    objects = [dice.random.randrange(object_types) for _ in range(dice.random.choice([1, 1, 2]))]
+    holds = {(dice.random.randrange(len(subjects)), dice.random.randrange(len(objects)), dice.random.randrange(rights))
+             for _ in range(dice.random.choice([1, 2, 2, 3]))}
+    new_table(script, subjects, objects, sorted(holds))
+
+
+def any_question(dice, session, rights, object_types):
+    subjects, objects = len(session.table.subjects), len(session.table.objects)
+    right = dice.random.choice([0, 0, 1, 2, 3, 4, 30, 31]) if rights == 32 else dice.below(rights)
+    if dice.chance(0.6):
+        line = "can %d %d %d" % (dice.below(subjects), dice.below(objects), right)
+    else:
+        line = "can-new %d %d %d" % (dice.below(subjects), dice.below(object_types), right)
+    if dice.chance(0.05):
+        line += " %d" % dice.random.choice([0, 2047, 2048, 2049, 2050, 4096, 4097])
+    return line
+
+
+def reachable_question(dice, session):
+    """A question whose answer is a run that is not empty, or None."""
+    book, table = session.book, session.table
+    subjects = range(len(table.subjects))
+    questions = []
+    for o, kind in enumerate(table.objects):
+        column = model.Column(table.subjects, kind, {s: table.held(s, o) for s in subjects})
+        new = model.gathered_in(book, column) - column.holdings()
+        questions += ["can %d %d %d" % (s, o, right) for s, right in new]
+    for creator, kind in itertools.product(subjects, range(16)):
+        gets = book.creation(table.subjects[creator], kind)
+        if gets is not None and len(table.objects) < model.OBJECTS:
+            column = model.Column(table.subjects, kind, {creator: gets})
+            new = model.gathered_in(book, column) - column.holdings()
+            questions += ["can-new %d %d %d" % (s, kind, right) for s, right in new]
+    return dice.random.choice(sorted(questions)) if questions else None
+
+
+def random_questions(script, dice, rights, object_types):
+    for _ in range(dice.random.randint(6, 12)):
+        line = reachable_question(dice, script.session) if dice.chance(0.4) else None
+        line = line or any_question(dice, script.session, rights, object_types)
+        if dice.chance(0.1) and len(script.session.table.objects) < 60:
+            walk(script, line)
+        else:
+            script.ask(line)
+
+
+def few_steps(script, dice):
+    for _ in range(dice.random.randint(1, 5)):
+        may = list(permitted_steps(script.session))
+        if may:
+            script.ask(dice.random.choice(may))
+
+
+def question_part(script, seed, rounds):
+    dice = Dice(seed)
+    for k in range(rounds):
+        script.note("random questions %d" % k)
+        dense = dice.chance(0.65)
+        kind = question_rows if dense else random_rows if dice.chance(0.5) else random_flags
+        rights, subject_types, object_types = kind(script, dice)
+        for _ in range(dice.random.randint(2, 3)):
+            (question_table if dense else random_table)(script, dice, rights, subject_types, object_types)
+            for _ in range(dice.random.randint(1, 3)):
+                random_questions(script, dice, rights, object_types)
+                few_steps(script, dice)
+            script.ask("dump")
+            random_questions(script, dice, rights, object_types)
+
+
 def main():
     script = Script()
     script.lines.append("# Written by tests/generate.py.")
     for part in BY_HAND:
         part(script)
     random_part(script, SEED, ROUNDS)
+    question_part(script, QUESTION_SEED, QUESTION_ROUNDS)
     sys.stdout.buffer.write("".join(line + "\n" for line in script.lines).encode("utf-8"))
 
 

@@ -10,6 +10,21 @@ stands twice in a list; 9, a row with an empty need; 20, one more than the limit
 
 A step is refused with the first of: 10, a number that names nothing; 11, a gift to oneself; 21, not permitted by the book;
 20, no room for an object; 22, no owner; 23, not held.
+
+A question asks whether a subject can ever hold a right: `can` for an object of the table, `can-new` for some object of a
+type that is not in the table when the question is put. It is put with a run list of so many places, and is refused with the
+first of: 10, a number that names nothing; 24, fewer than 2,049 places. It never alters the table.
+
+An answer `can` shows a run, and the rules fix which. For `can` it stays in the object's column. At each point it takes the
+first step that the book permits and that adds a right to the receiver's cell: receivers by number, for each one its
+transforms before the grants to it, grants by the giver's number, then the lowest right. It stops as soon as the holding
+stands; if there is no step before that, the answer is never. For `can-new` the answer is never while 64 objects stand. Else
+the creators are tried by number, each with the column that its create would make, and the run is the create of the first
+one whose column reaches the holding, and then the steps of that column.
+
+Three checks of these answers stand beside the rule, and know nothing of its order: a shown run is walked by the steps of a
+table; what can be held in a column is gathered as a set that grows until nothing is new; and where a column has few states,
+all of them are visited, those behind a revoke too.
 """
 
 import re
@@ -21,6 +36,8 @@ OBJECT_TYPES = 16
 ROWS = 256
 SUBJECTS = 64
 OBJECTS = 64
+RUN_PLACES = SUBJECTS * RIGHTS + 1
+MOST_PLACES = 4096
 LARGEST_NUMBER = 2 ** 64 - 1
 
 BLANKS = re.compile("[\t-\r \x85\xa0\u1680\u2000-\u200a\u2028\u2029\u202f\u205f\u3000]+")
@@ -235,6 +252,50 @@ class Table:
         self.cells[d, o] = self.held(d, o) - {right}
         return "taken"
 
+    def can(self, book, s, o, right, places):
+        self.refuse_absent([s], o, right)
+        refuse_if(places < RUN_PLACES, 24)
+        column = Column(self.subjects, self.objects[o], {d: self.held(d, o) for d in range(len(self.subjects))})
+        run = run_in(book, column, o, s, right)
+        check_answer(book, [column], s, right, run)
+        if run is not None:
+            self.check_run(book, run, s, o, right)
+        return told(run)
+
+    def can_new(self, book, s, t, right, places):
+        refuse_if(s >= len(self.subjects), 10)
+        refuse_if(t >= OBJECT_TYPES, 10)
+        refuse_if(right >= RIGHTS, 10)
+        refuse_if(places < RUN_PLACES, 24)
+        if len(self.objects) == OBJECTS:
+            return told(None)
+        columns = []
+        found = None
+        for creator, u in enumerate(self.subjects):
+            gets = book.creation(u, t)
+            if gets is None:
+                continue
+            columns.append(Column(self.subjects, t, {creator: gets}))
+            run = run_in(book, columns[-1], len(self.objects), s, right)
+            if run is not None:
+                found = ["create %d %d" % (creator, t)] + run
+                self.check_run(book, found, s, len(self.objects), right)
+                break
+        check_answer(book, columns, s, right, found)
+        return told(found)
+
+    def check_run(self, book, run, s, o, right):
+        """Each step of the run is permitted and does something, and the holding stands at its end and no sooner."""
+        assert len(run) < RUN_PLACES
+        walked = Table()
+        walked.subjects, walked.objects, walked.cells = self.subjects, list(self.objects), dict(self.cells)
+        for step in run:
+            assert right not in walked.held(s, o)
+            name, *given = step.split()
+            done = STEPS[name][1](walked, book, *map(int, given))
+            assert done == ("made %d" % o if name == "create" else "added 1")
+        assert right in walked.held(s, o)
+
     def cell(self, s, o):
         refuse_if(s >= len(self.subjects) or o >= len(self.objects), 10)
         return shown(self.held(s, o))
@@ -242,6 +303,143 @@ class Table:
     def dump(self):
         cells = ["%d/%d%s" % (s, o, shown(held)) for (s, o), held in sorted(self.cells.items()) if held]
         return " ".join(cells) if cells else "nothing"
+
+
+# --- the questions ---------------------------------------------------------------------------------------------------
+
+
+class Column:
+    """The cells of one object: for each subject what it holds."""
+
+    def __init__(self, types, kind, cells):
+        self.types = types
+        self.kind = kind
+        self.cells = [set(cells.get(s, ())) for s in range(len(types))]
+
+    def holdings(self):
+        return frozenset((s, right) for s, held in enumerate(self.cells) for right in held)
+
+
+def first_step(may_add, may_give, column):
+    """The giver, which is None for a transform, the receiver and the right of the first step that adds a right."""
+    for receiver, held in enumerate(column.cells):
+        if len(held) == RIGHTS:
+            continue
+        new = may_add(receiver) - held
+        if new:
+            return None, receiver, min(new)
+        for giver in range(len(column.types)):
+            if giver != receiver:
+                new = may_give(giver, receiver) - held
+                if new:
+                    return giver, receiver, min(new)
+    return None
+
+
+def run_in(book, start, number, s, right):
+    """The steps of the run in a column, as lines name them, or None."""
+    column = Column(start.types, start.kind, dict(enumerate(start.cells)))
+    known = {}
+
+    def remembered(ask, *given):
+        key = (ask.__name__,) + given[:-1] + (frozenset(given[-1]),)
+        if key not in known:
+            known[key] = ask(*given)
+        return known[key]
+
+    def may_add(receiver):
+        return remembered(book.may_add, column.types[receiver], column.kind, column.cells[receiver])
+
+    def may_give(giver, receiver):
+        types = column.types[giver], column.types[receiver], column.kind
+        return remembered(book.may_give, *types, column.cells[giver])
+
+    run = []
+    while right not in column.cells[s]:
+        step = first_step(may_add, may_give, column)
+        if step is None:
+            return None
+        giver, receiver, added = step
+        column.cells[receiver].add(added)
+        if giver is None:
+            run.append("add %d %d %d" % (receiver, number, added))
+        else:
+            run.append("give %d %d %d %d" % (giver, receiver, number, added))
+    return run
+
+
+def told(run):
+    return "never" if run is None else " : ".join(["can %d" % len(run)] + run)
+
+
+# --- the questions, answered in two other ways -----------------------------------------------------------------------
+
+
+FEW_SUBJECTS = 8
+FEW_STATES = 300
+
+
+def gathered_in(book, column):
+    """All holdings that can come, joined at once each time, until nothing is new."""
+    types, kind = column.types, column.kind
+    holdings = column.holdings()
+    while True:
+        cells = [{right for d, right in holdings if d == s} for s in range(len(types))]
+        more = set(holdings)
+        for s, u in enumerate(types):
+            more.update((s, right) for right in book.may_add(u, kind, cells[s]))
+            for d, v in enumerate(types):
+                if d != s:
+                    more.update((d, right) for right in book.may_give(u, v, kind, cells[s]))
+        if more == holdings:
+            return holdings
+        holdings = more
+
+
+def next_states(book, column, state):
+    """The states of the column after one step of any kind."""
+    types, kind = column.types, column.kind
+    for s, u in enumerate(types):
+        held = {right for d, right in state if d == s}
+        for right in book.may_add(u, kind, held):
+            yield state | {(s, right)}
+        for d, v in enumerate(types):
+            if d != s:
+                for right in book.may_give(u, v, kind, held):
+                    yield state | {(d, right)}
+        if book.owner() in held:
+            for holding in state:
+                yield state - {holding}
+
+
+def visited(book, column):
+    """All states that the column can come to, or None where they are many."""
+    seen = {column.holdings()}
+    waiting = list(seen)
+    while waiting:
+        for state in next_states(book, column, waiting.pop(0)):
+            if state not in seen:
+                seen.add(state)
+                waiting.append(state)
+        if len(seen) > FEW_STATES:
+            return None
+    return seen
+
+
+COUNTS = {"gathered": 0, "visited": 0, "longest": 0}
+
+
+def check_answer(book, columns, s, right, run):
+    """The answer agrees with what the columns of these cells can come to. A run may begin in any of them."""
+    COUNTS["longest"] = max(COUNTS["longest"], 0 if run is None else len(run))
+    if columns and len(columns[0].types) > FEW_SUBJECTS:
+        return
+    COUNTS["gathered"] += 1
+    assert any((s, right) in gathered_in(book, column) for column in columns) == (run is not None)
+    states = [visited(book, column) for column in columns]
+    if None not in states:
+        COUNTS["visited"] += 1
+        assert any((s, right) in state for seen in states for state in seen) == (run is not None)
 
 
 def shown(rights):
@@ -307,6 +505,11 @@ STEPS = {
     "revoke": (4, Table.revoke),
 }
 
+QUESTIONS = {
+    "can": Table.can,
+    "can-new": Table.can_new,
+}
+
 LOOKS = {
     "cell": (2, Table.cell),
     "dump": (0, Table.dump),
@@ -330,6 +533,8 @@ class Session:
         if name in ("book", "fix", "table", "start"):
             readable(not given)
             return getattr(self, "do_" + name)()
+        if name in QUESTIONS:
+            return self.question(QUESTIONS[name], given)
         for calls, target in ((DECLARATIONS, [self.draft]), (BUILDING, [self.building]),
                               (STEPS, [self.table, self.book]), (LOOKS, [self.table])):
             if name in calls:
@@ -342,6 +547,12 @@ class Session:
         kinds, *rows = lists(rest, list_count)
         readable(len(kinds) == type_count and self.draft is not None)
         return call(self.draft, *kinds, *rows)
+
+    def question(self, call, given):
+        readable(len(given) in (3, 4) and None not in (self.table, self.book))
+        *asked, places = given if len(given) == 4 else given + [RUN_PLACES]
+        readable(places <= MOST_PLACES)
+        return call(self.table, self.book, *asked, places)
 
     def flags(self, given):
         readable(len(given) == 7)

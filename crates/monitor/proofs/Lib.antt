@@ -1,2 +1,2 @@
-mod Memory
-mod Obedience
+pub mod Memory
+pub mod Obedience

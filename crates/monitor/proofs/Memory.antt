@@ -20,13 +20,13 @@ use Rattle.monitor.specs.Grids.{state-from, state-of}
 use Rattle.monitor.specs.Places.{place-in}
 use Rattle.monitor.specs.declared.grid.Grid.{Grid}
 
-take-set-lt : {X : Type 0} (n : ℕ) (l : List X) (i : ℕ) (a : X) → i < n → take n (set l i a) ≡ set (take n l) i a
+pub take-set-lt : {X : Type 0} (n : ℕ) (l : List X) (i : ℕ) (a : X) → i < n → take n (set l i a) ≡ set (take n l) i a
 take-set-lt zero l i a h = absurd (omega arith)
 take-set-lt (suc n) [] i a h = refl
 take-set-lt (suc n) (y ∷ ys) zero a h = refl
 take-set-lt (suc n) (y ∷ ys) (suc i) a h = ap (λ t. y ∷ t) (take-set-lt n ys i a (omega arith))
 
-map-replicate : {X Y : Type 0} (f : X → Y) (n : ℕ) (x : X) → map f (replicate n x) ≡ replicate n (f x)
+pub map-replicate : {X Y : Type 0} (f : X → Y) (n : ℕ) (x : X) → map f (replicate n x) ≡ replicate n (f x)
 map-replicate f zero x = refl
 map-replicate f (suc n) x = ap (λ t. f x ∷ t) (map-replicate f n x)
 
@@ -194,3 +194,28 @@ state-square g o l =
     let c = getD cs o no-column in
     ap (λ b. length (b .cells)) (getD-map (object-of n) cs o no-column no-object lo)
     ∙ omega (arith, length-map (take n (c .cells)) (λ x. x .bits), length-take n (c .cells), g .full o lo, g .«few_subjects», g .subjects .ok .0, length-map (vec-items (g .subjects)) (λ t. t .number))
+
+-- a column as it is read
+module _ (g : Grid) (o : ℕ) (lo : o < vec-len (g .columns)) (c : Column) (here : c ≡ getD (vec-items (g .columns)) o c) where
+  in-list : o < length (vec-items (g .columns))
+  in-list = omega (arith, g .columns .ok .0)
+
+  same : c ≡ getD (vec-items (g .columns)) o no-column
+  same = getD-read (vec-items (g .columns)) o c in-list here no-column
+
+  pub column-full : length (c .cells) ≡ 64
+  column-full = ap (λ b. length (b .cells)) same ∙ g .full o in-list
+
+  pub column-read : object-of (length (state-of g .subjects)) c ≡ object (state-of g) o
+  column-read =
+      let n = length (vec-items (g .subjects)) in
+      ap (λ k. object-of k c) (length-map (vec-items (g .subjects)) (λ t. t .number))
+      ∙ ap (object-of n) same ∙ sym (getD-map (object-of n) (vec-items (g .columns)) o no-column no-object in-list)
+
+  pub column-stands : is-object (state-of g) o ≡ true
+  column-stands =
+      lt-ltb o (length (state-of g .objects)) (omega (arith, length-map (vec-items (g .columns)) (object-of (length (vec-items (g .subjects)))), g .columns .ok .0))
+
+pub no-column-there : (g : Grid) (o : ℕ) → vec-len (g .columns) ≤ o → is-object (state-of g) o ≡ false
+no-column-there g o h =
+    le-ltb o (length (state-of g .objects)) (omega (arith, length-map (vec-items (g .columns)) (object-of (length (vec-items (g .subjects)))), g .columns .ok .0))

@@ -71,7 +71,7 @@ module _ (S : State) (square : Square S) (d o r : ℕ) (ld : d < length (S .subj
   inside : d < length (object S o .cells)
   inside = omega (arith, square o lo)
 
-  joins : Joins S d o r (join S d o r .0) (join S d o r .1)
+  pub joins : Joins S d o r (join S d o r .0) (join S d o r .1)
   joins = record {
     rest = same-but S d o (add (cell S d o) r) lo;
     in-cell = λ q. ap (λ c. has c q) (cell-same S d o (add (cell S d o) r) lo inside) ∙ added (cell S d o) r q;
@@ -138,7 +138,7 @@ owns-mark (Some r) held t = (r, refl, t)
 mark-owns : (mark : Option ℕ) (held r : ℕ) → mark ≡ Some r → T (has held r) → T (owns mark held)
 mark-owns mark held r e t = subst (λ x. T (owns x held)) (sym e) t
 
-lt-T : (a b : ℕ) → a < b → T (ltb a b)
+pub lt-T : (a b : ℕ) → a < b → T (ltb a b)
 lt-T a b l = T-true (lt-ltb a b l)
 
 apart-T : (a b : ℕ) → (a ≡ b → ⊥) → T (not (eqb a b))
@@ -147,10 +147,10 @@ apart-T a b ne = subst (λ t. T (not t)) (sym (ne-eqb a b ne)) tt
 T-apart : (a b : ℕ) → T (not (eqb a b)) → a ≡ b → ⊥
 T-apart a b t e = subst (λ u. T (not u)) (eq-eqb a b e) t
 
-in-T : (S : State) (s o : ℕ) → s < length (S .subjects) → o < length (S .objects) → T (in-table S s o)
+pub in-T : (S : State) (s o : ℕ) → s < length (S .subjects) → o < length (S .objects) → T (in-table S s o)
 in-T S s o ls lo = and-T (is-subject S s) (is-object S o) (lt-T s (length (S .subjects)) ls) (lt-T o (length (S .objects)) lo)
 
-T-in : (S : State) (s o : ℕ) → T (in-table S s o) → (s < length (S .subjects)) × (o < length (S .objects))
+pub T-in : (S : State) (s o : ℕ) → T (in-table S s o) → (s < length (S .subjects)) × (o < length (S .objects))
 T-in S s o t =
     let p = T-and (is-subject S s) (is-object S o) t in
     (ltb→lt s (length (S .subjects)) (p .0), ltb→lt o (length (S .objects)) (p .1))
@@ -169,14 +169,14 @@ made-as S s t None x h = absurd (let z : _≡_ {A = ℕ} 0 1 = cc in omega arith
 made-as S s t (Some rights) x h = (rights, refl, let e = demand-ok (ltb (length (S .objects)) 64) LimitReached _ x h .1 in cc)
 
 module _ (w : ℕ) (m : Meaning) (S : State) where
-  range : (s d o r : ℕ) → T (in-table S s o && in-table S d o && ltb r w)
+  pub range : (s d o r : ℕ) → T (in-table S s o && in-table S d o && ltb r w)
       → (s < length (S .subjects)) × (d < length (S .subjects)) × (o < length (S .objects)) × (r < w)
   range s d o r t =
       let p = T-and (in-table S s o && in-table S d o) (ltb r w) t in
       let q = T-and (in-table S s o) (in-table S d o) (p .0) in
       (T-in S s o (q .0) .0, T-in S d o (q .1) .0, T-in S s o (q .0) .1, ltb→lt r w (p .1))
 
-  ranged : (s d o r : ℕ) → s < length (S .subjects) → d < length (S .subjects) → o < length (S .objects) → r < w → T (in-table S s o && in-table S d o && ltb r w)
+  pub ranged : (s d o r : ℕ) → s < length (S .subjects) → d < length (S .subjects) → o < length (S .objects) → r < w → T (in-table S s o && in-table S d o && ltb r w)
   ranged s d o r ls ld lo lr =
       and-T (in-table S s o && in-table S d o) (ltb r w) (and-T (in-table S s o) (in-table S d o) (in-T S s o ls lo) (in-T S d o ld lo)) (lt-T r w lr)
 

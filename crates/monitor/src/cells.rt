@@ -9,7 +9,8 @@ ghost use Rattle.std.specs.declared.result.Result.the-variants.{Ok, Err};
 ghost use Rattle.rights.specs.Limits.{max-subjects, max-objects};
 ghost use Rattle.rights.specs.Refusals.{demand, on-ok};
 ghost use Rattle.rights.specs.declared.refusal.Refusal.the-variants.{OutOfRange};
-ghost use Rattle.monitor.specs.States.{empty-table, is-subject, object, type-of, cell, in-table, with-subject, with-object, with-cell};
+ghost use Rattle.monitor.specs.States.{empty-table, is-subject, is-object, object, type-of, cell, in-table, with-subject, with-object, with-cell};
+ghost use Rattle.monitor.specs.Columns.{object-of};
 ghost use Rattle.monitor.specs.Grids.{state-of};
 ghost use Rattle.monitor.specs.Places.{place-in, place-of};
 use crate::column::Column;
@@ -101,5 +102,16 @@ impl Grid {
         ensures len { λ n. ⌜ n ≡ vec-len (now (self .entry) .columns) ⌝ }
     {
         self.columns.len()
+    }
+
+    // A copy of an object's column.
+    pub(crate) fn column(&self, o: usize) -> Result<Column, Refusal>
+        ensures value { λ r. ⌜ on-ok (object-of (length (state-of (now (self .entry)) .subjects))) r ≡ demand (is-object (state-of (now (self .entry))) o) OutOfRange (Ok (object (state-of (now (self .entry))) o)) ⌝ }
+        ensures full { λ r. ⌜ made r (λ c. length (c .cells) ≡ max-subjects) ⌝ }
+    {
+        if o >= self.columns.len() {
+            return Err(Refusal::OutOfRange);
+        }
+        Ok(self.columns[o])
     }
 }

@@ -6,6 +6,6 @@ use rights::limits::MAX_SUBJECTS;
 // The object's type, and a cell for each place at which a subject may stand.
 #[derive(Clone, Copy)]
 pub struct Column {
-    pub(crate) kind: ObjectType,
-    pub(crate) cells: [RightSet; MAX_SUBJECTS],
+    pub kind: ObjectType,
+    pub cells: [RightSet; MAX_SUBJECTS],
 }

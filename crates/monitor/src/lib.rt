@@ -6,6 +6,7 @@ pub mod grid;
 pub mod step;
 pub mod table;
 
+pub use column::Column;
 pub use draft::TableDraft;
 pub use step::Done;
 pub use step::Step;

@@ -4,7 +4,9 @@ use mathlib.Core.List.{List, [], _∷_}
 use Prim.Native.Nat.{ℕ}
 use lib.ListN.{replicate}
 use Rattle.std.specs.declared.option.Option.the-variants.{None, Some}
-use Rattle.rows.specs.Rules.{Book}
+use Rattle.rights.specs.Limits.{max-rights}
+use Rattle.monitor.specs.States.{State, empty-table}
+use Rattle.monitor.specs.Machine.{build-subject, build-object, build-holding}
 use Rattle.rows.specs.Drafts.{Declared, nothing-declared, declare-right, declare-subject-type, declare-object-type, declare-owner, declare-creation, declare-row}
 use Rattle.flags.specs.declared.settings.Settings.{Settings}
 use Rattle.flags.specs.declared.settings.FreshFlag.the-variants.{Counted}
@@ -47,6 +49,26 @@ review =
     let shown = declare-row created author (Some checker) paper (own ∷ []) (seen ∷ []) .0 in
     let passed = declare-row shown checker (Some author) paper (seen ∷ []) (ok ∷ []) .0 in
     declare-row passed author None paper (own ∷ ok ∷ []) (print ∷ []) .0
+
+-- subjects, and an object
+abbrev pub ann : ℕ
+ann = 0
+
+abbrev pub ben : ℕ
+ben = 1
+
+abbrev pub cy : ℕ
+cy = 2
+
+abbrev pub p1 : ℕ
+p1 = 0
+
+-- ann and cy are authors, ben is a checker; ann owns the paper p1
+abbrev pub office : State
+office =
+    let people = build-subject (build-subject (build-subject empty-table author .0) checker .0) author .0 in
+    let papers = build-object people paper .0 in
+    build-holding max-rights papers ann p1 own .0
 
 -- three counted flags, for every type
 abbrev pub three-flags : Settings

@@ -13,6 +13,8 @@ use Rattle.rows.specs.Drafts.{Declared, declare-right, declare-subject-type, de
 use Rattle.flags.specs.Flags.{flags-meaning}
 use Rattle.monitor.specs.States.{State}
 use Rattle.monitor.specs.Machine.{build-subject, build-object, build-holding}
+use Rattle.safety.specs.declared.question.Reply.{Reply}
+use Rattle.safety.specs.declared.question.Reply.the-variants as reply
 use Rattle.replay.specs.declared.answer.Answer.{Answer}
 use Rattle.replay.specs.declared.answer.Answer.the-variants.{Accepted, Number}
 use Rattle.replay.specs.declared.command.Building.{Building}
@@ -26,6 +28,15 @@ use Rattle.replay.specs.declared.session.Book.the-variants.{Rows, Flags}
 abbrev pub rules-in : Book → Meaning
 rules-in (Rows b) = book-meaning (book-of (b .table))
 rules-in (Flags b) = flags-meaning (b .settings)
+
+-- how many steps of a run the reply shows
+abbrev pub shown-length : Reply → ℕ
+shown-length (reply.Made _) = 0
+shown-length (reply.Added _) = 0
+shown-length reply.Taken = 0
+shown-length reply.Never = 0
+shown-length (reply.Can n) = n
+shown-length (reply.Refused _) = 0
 
 -- a call with its answer as a line shows it
 abbrev pub answered : {S A : Type 0} → (A → Answer) → S × Result A Refusal → S × Result Answer Refusal

@@ -1,7 +1,8 @@
 // What a call that is not refused answers.
-use monitor::Done;
+use monitor::Step;
 use rights::MembersIterator;
 use rights::RightSet;
+use safety::Reply;
 use std::fmt;
 
 // A cell that is not empty.
@@ -12,11 +13,21 @@ pub struct Holding {
     pub rights: RightSet,
 }
 
+// The reply to a step or to a question, and what was found in the run list behind the call.
+#[derive(Drop)]
+pub struct Told {
+    pub reply: Reply,
+    // The shown run.
+    pub run: Vec<Step>,
+    // Is a place behind the shown run not as it was before the call?
+    pub touched: bool,
+}
+
 #[derive(Drop)]
 pub enum Answer {
     Accepted,
     Number(usize),
-    Done(Done),
+    Told(Told),
     Cell(RightSet),
     Cells(Vec<Holding>),
 }
@@ -37,13 +48,55 @@ fn show_rights<W: fmt::Write>(rights: RightSet, f: &mut fmt::Formatter<W>) -> fm
     f.write_str("}")
 }
 
-fn show_done<W: fmt::Write>(done: Done, f: &mut fmt::Formatter<W>) -> fmt::Result {
-    match done {
-        Done::Made(object) => write!(f, "made {object}"),
-        Done::Added(true) => f.write_str("added 1"),
-        Done::Added(false) => f.write_str("added 0"),
-        Done::Taken => f.write_str("taken"),
+fn show_reply<W: fmt::Write>(reply: Reply, f: &mut fmt::Formatter<W>) -> fmt::Result {
+    match reply {
+        Reply::Made(object) => write!(f, "made {object}"),
+        Reply::Added(true) => f.write_str("added 1"),
+        Reply::Added(false) => f.write_str("added 0"),
+        Reply::Taken => f.write_str("taken"),
+        Reply::Never => f.write_str("never"),
+        Reply::Can(count) => write!(f, "can {count}"),
+        Reply::Refused(refusal) => {
+            let number = refusal.number();
+            write!(f, "refused {number}")
+        }
     }
+}
+
+// The step as a line names it.
+fn show_step<W: fmt::Write>(step: Step, f: &mut fmt::Formatter<W>) -> fmt::Result {
+    match step {
+        Step::Create { subject, kind } => write!(f, "create {subject} {kind}"),
+        Step::Transform {
+            subject,
+            object,
+            right,
+        } => write!(f, "add {subject} {object} {right}"),
+        Step::Grant {
+            giver,
+            receiver,
+            object,
+            right,
+        } => write!(f, "give {giver} {receiver} {object} {right}"),
+        Step::Revoke {
+            owner,
+            loser,
+            object,
+            right,
+        } => write!(f, "revoke {owner} {loser} {object} {right}"),
+    }
+}
+
+fn show_told<W: fmt::Write>(told: &Told, f: &mut fmt::Formatter<W>) -> fmt::Result {
+    show_reply(told.reply, f)?;
+    for step in told.run.iter() {
+        f.write_str(" : ")?;
+        show_step(*step, f)?;
+    }
+    if told.touched {
+        f.write_str(" list-touched")?;
+    }
+    Ok(())
 }
 
 fn show_cells<W: fmt::Write>(cells: &[Holding], f: &mut fmt::Formatter<W>) -> fmt::Result {
@@ -67,7 +120,7 @@ pub impl fmt::Display for Answer as AnswerDisplay {
         match self {
             Answer::Accepted => f.write_str("ok"),
             Answer::Number(number) => write!(f, "{number}"),
-            Answer::Done(done) => show_done(*done, f),
+            Answer::Told(told) => show_told(told, f),
             Answer::Cell(rights) => show_rights(*rights, f),
             Answer::Cells(cells) => show_cells(cells.as_slice(), f),
         }

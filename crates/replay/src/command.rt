@@ -2,13 +2,21 @@
 ghost use mathlib.Core.Path.{_≡_};
 ghost use mathlib.Core.Bool.{cond};
 ghost use lib.Chars.{codes};
+ghost use lib.Dec.{leb};
 ghost use Rattle.std.specs.Vec.{made};
+ghost use Rattle.std.specs.declared.option.Option.the-variants.{None, Some};
+ghost use Rattle.rights.specs.Limits.{max-rights};
+ghost use Rattle.safety.specs.declared.question.Call.the-variants.{Act, Ask};
+ghost use Rattle.safety.specs.Questions.{list-places};
 use crate::fault::Fault;
 use crate::fault::FaultFromParse;
 use crate::fault::FaultFromRefused;
 use flags::FreshFlag;
 use flags::Settings;
 use monitor::Step;
+use questions::RUN_PLACES;
+use safety::Call;
+use safety::Question;
 use std::alloc::Global;
 use std::str::SplitWhitespace;
 
@@ -60,7 +68,8 @@ pub enum Command {
     Table,
     Build(Building),
     Start,
-    Take(Step),
+    // A step or a question, put with a run list of so many places.
+    Make { call: Call, places: usize },
     Cell { subject: usize, object: usize },
     Dump,
 }
@@ -219,10 +228,20 @@ fn of_one(name: &str, number: usize) -> Option<Command> {
     }
 }
 
+// A step. It wants no run list, and leaves the one that it is put with.
+fn act(step: Step) -> Command
+    ensures { λ c. ⌜ c ≡ Command.Make (Act step) (list-places max-rights) ⌝ }
+{
+    Command::Make {
+        call: Call::Act(step),
+        places: RUN_PLACES,
+    }
+}
+
 // A call of a subject with one more number.
 fn of_two(name: &str, subject: usize, number: usize) -> Option<Command> {
     match name {
-        "create" => Some(Command::Take(Step::Create {
+        "create" => Some(act(Step::Create {
             subject,
             kind: number,
         })),
@@ -242,7 +261,7 @@ fn of_three(name: &str, subject: usize, object: usize, right: usize) -> Option<C
             object,
             right,
         })),
-        "add" => Some(Command::Take(Step::Transform {
+        "add" => Some(act(Step::Transform {
             subject,
             object,
             right,
@@ -260,13 +279,13 @@ fn of_four(
     right: usize,
 ) -> Option<Command> {
     match name {
-        "give" => Some(Command::Take(Step::Grant {
+        "give" => Some(act(Step::Grant {
             giver: subject,
             receiver: other,
             object,
             right,
         })),
-        "revoke" => Some(Command::Take(Step::Revoke {
+        "revoke" => Some(act(Step::Revoke {
             owner: subject,
             loser: other,
             object,
@@ -288,6 +307,55 @@ fn plain(name: &str, numbers: &[usize]) -> Option<Command> {
     }
 }
 
+// The most places that a line may ask a run list of.
+const MOST_PLACES: usize = 4096;
+
+fn ask(question: Question, places: usize) -> Option<Command>
+    ensures { λ c. ⌜ c ≡ cond (leb places 4096) (Some (Command.Make (Ask question) places)) None ⌝ }
+{
+    if places > MOST_PLACES {
+        return None;
+    }
+    Some(Command::Make {
+        call: Call::Ask(question),
+        places,
+    })
+}
+
+// Whether a subject can ever hold a right for an object.
+fn ask_old(numbers: &[usize]) -> Option<Command> {
+    let (subject, object, right, places) = match numbers {
+        [s, o, r] => (*s, *o, *r, RUN_PLACES),
+        [s, o, r, p] => (*s, *o, *r, *p),
+        _ => return None,
+    };
+    ask(
+        Question::Can {
+            subject,
+            object,
+            right,
+        },
+        places,
+    )
+}
+
+// Whether a subject can ever hold a right for some new object of a type.
+fn ask_new(numbers: &[usize]) -> Option<Command> {
+    let (subject, kind, right, places) = match numbers {
+        [s, t, r] => (*s, *t, *r, RUN_PLACES),
+        [s, t, r, p] => (*s, *t, *r, *p),
+        _ => return None,
+    };
+    ask(
+        Question::CanNew {
+            subject,
+            kind,
+            right,
+        },
+        places,
+    )
+}
+
 impl Command {
     pub fn read(heap: Global, line: &str) -> Result<Command, Fault> {
         let (name, rest) = line.split_once(' ').unwrap_or((line, ""));
@@ -296,6 +364,8 @@ impl Command {
             "transform" => Ok(Command::Declare(read_transform(heap, rest)?)),
             "grant" => Ok(Command::Declare(read_grant(heap, rest)?)),
             "flags" => Ok(Command::Flags(read_settings(rest)?)),
+            "can" => ask_old(read_numbers(heap, rest)?.as_slice()).ok_or(Fault::Unreadable),
+            "can-new" => ask_new(read_numbers(heap, rest)?.as_slice()).ok_or(Fault::Unreadable),
             _ => {
                 let numbers = read_numbers(heap, rest)?;
                 plain(name, numbers.as_slice()).ok_or(Fault::Unreadable)

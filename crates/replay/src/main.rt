@@ -23,8 +23,14 @@
 //     add S O R                       S adds R to its cell by a transform          added 1, or added 0 if it was there
 //     give S D O R                    S gives R to D                               the same
 //     revoke S D O R                  S takes R from D                             taken
+//     can S O R                       can S ever hold R for O?                     never, or can K : STEP : STEP ..
+//     can-new S T R                   and for some new object of type T?           the same
 //     cell S O                        what S holds for O                           {R ..} in order of number
 //     dump                            all cells that are not empty                 S/O{R ..} .., or nothing
+//
+// A step or a question is made with a run list of 2049 places. A question may name another number of places, at most 4096,
+// behind its other numbers. The K steps of a shown run are written as lines name them. Before the call each place holds one
+// marker step, and the answer ends with ` list-touched` if a place behind the shown run does not hold it after the call.
 //
 // A refused call answers `refused` and the number of the refusal. A line that names no call, or a call for which the draft,
 // the book or the table is missing, answers `unreadable`, and nothing else happens. An empty line and a line that begins

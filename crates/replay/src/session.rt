@@ -1,15 +1,21 @@
 // The drafts, the book and the table that the calls are made on.
 ghost use mathlib.Core.Path.{_≡_};
+ghost use Prim.Native.Nat.{min};
+ghost use lib.ListN.{length, take, replicate};
+ghost use Rattle.std.specs.Of.Vec.{vec-items};
+ghost use Rattle.std.specs.Vec.{made};
 ghost use Rattle.std.specs.declared.option.Option.the-variants.{None};
 ghost use Rattle.std.specs.declared.result.Result.the-variants.{Err};
 ghost use Rattle.rights.specs.Limits.{max-rights};
 ghost use Rattle.rows.specs.Books.{declared-of};
-ghost use Rattle.monitor.specs.Machine.{perform};
+ghost use Rattle.monitor.specs.declared.step.Step.the-variants.{Create};
 ghost use Rattle.monitor.specs.Grids.{state-of};
+ghost use Rattle.safety.specs.Questions.{called};
 ghost use Rattle.replay.specs.declared.fault.Fault.the-variants.{Unreadable};
-ghost use Rattle.replay.specs.Calls.{rules-in, built, declared-by};
+ghost use Rattle.replay.specs.Calls.{rules-in, built, declared-by, shown-length};
 use crate::answer::Answer;
 use crate::answer::Holding;
+use crate::answer::Told;
 use crate::command::Building;
 use crate::command::Command;
 use crate::command::Declaration;
@@ -18,16 +24,18 @@ use crate::fault::FaultFromAlloc;
 use crate::fault::FaultFromRefusal;
 use flags::CopyFlagBook;
 use flags::CopyFlagRules;
-use monitor::Done;
 use monitor::Step;
 use monitor::Table;
 use monitor::TableDraft;
+use questions::perform;
 use rights::Refusal;
 use rights::limits::MAX_OBJECTS;
 use rights::limits::MAX_SUBJECTS;
 use rows::Draft;
 use rows::RowBook;
 use rows::RowRules;
+use safety::Call;
+use safety::Reply;
 use std::alloc::AllocError;
 use std::alloc::Global;
 
@@ -45,6 +53,8 @@ pub struct Session {
     book: Option<Book>,
     building: Option<TableDraft>,
     table: Option<Table>,
+    // The run list that the calls are made with.
+    run: Vec<Step>,
 }
 
 fn declare(draft: &mut Draft, declaration: Declaration) -> Result<Answer, Refusal>
@@ -94,14 +104,72 @@ fn build(draft: &mut TableDraft, building: Building) -> Result<Answer, Refusal>
     }
 }
 
-// The monitor takes the step under the current book.
-fn take(table: &mut Table, book: &Book, step: Step) -> Result<Done, Refusal>
-    ensures { λ r. ⌜ (state-of (now (table .exit) .grid), r) ≡ perform max-rights (rules-in (now (book .entry))) (state-of (now (table .entry) .grid)) step ⌝ }
+// The call under the current book.
+fn make(table: &mut Table, book: &Book, call: Call, run: &mut [Step]) -> Reply
+    ensures { λ r. ⌜ (state-of (now (table .exit) .grid), now (run .exit), r) ≡ called max-rights (rules-in (now (book .entry))) (state-of (now (table .entry) .grid)) call (now (run .entry)) ⌝ }
 {
     match book {
-        Book::Rows(rows) => table.perform(rows, step),
-        Book::Flags(flags) => table.perform(flags, step),
+        Book::Rows(rows) => perform(table, rows, call, run),
+        Book::Flags(flags) => perform(table, flags, call, run),
     }
+}
+
+// What stands in each place of the run list before a call.
+const MARKER: Step = Step::Create {
+    subject: 7,
+    kind: 7,
+};
+
+fn is_marker(step: Step) -> bool {
+    matches!(
+        step,
+        Step::Create {
+            subject: 7,
+            kind: 7
+        }
+    )
+}
+
+// The list gets so many places, with the marker in each.
+fn refill(list: &mut Vec<Step>, places: usize) -> Result<(), AllocError>
+    ensures { λ r. ⌜ made r (λ _. vec-items (now (list .exit)) ≡ replicate places (Create 7 7)) ⌝ }
+{
+    list.clear();
+    list.resize(places, MARKER)?;
+    Ok(())
+}
+
+// How many steps the shown run has.
+fn shown_length(reply: Reply) -> usize
+    ensures { λ n. ⌜ n ≡ shown-length reply ⌝ }
+{
+    match reply {
+        Reply::Can(count) => count,
+        _ => 0,
+    }
+}
+
+// Does each of these places hold the marker?
+fn all_marked(places: &[Step]) -> bool {
+    for step in places {
+        if !is_marker(*step) {
+            return false;
+        }
+    }
+    true
+}
+
+// The reply with what the call left in the run list: the shown run in the first places, and the marker in the others.
+fn tell(heap: Global, reply: Reply, list: &[Step]) -> Result<Told, AllocError>
+    ensures reply { λ r. ⌜ made r (λ t. t .reply ≡ reply) ⌝ }
+    ensures run { λ r. ⌜ made r (λ t. vec-items (t .run) ≡ take (min (shown-length reply) (length (now (list .entry)))) (now (list .entry))) ⌝ }
+{
+    let (run, rest) = list.split_at(shown_length(reply).min(list.len()));
+    Ok(Told {
+        reply,
+        run: run.to_vec(heap)?,
+        touched: !all_marked(rest),
+    })
 }
 
 // The cells that are not empty, by subject and then by object.
@@ -135,6 +203,7 @@ impl Session {
             book: None,
             building: None,
             table: None,
+            run: Vec::new(heap),
         }
     }
 
@@ -153,7 +222,7 @@ impl Session {
             Command::Table => self.new_table(),
             Command::Build(building) => self.build(building),
             Command::Start => self.start(),
-            Command::Take(step) => self.take(step),
+            Command::Make { call, places } => self.make(call, places),
             Command::Cell { subject, object } => self.cell(subject, object),
             Command::Dump => self.dump(),
         }
@@ -217,7 +286,7 @@ impl Session {
         Ok(Answer::Accepted)
     }
 
-    fn take(&mut self, step: Step) -> Result<Answer, Fault>
+    fn make(&mut self, call: Call, places: usize) -> Result<Answer, Fault>
         ensures same { λ _. ⌜ (now (self .exit) .draft ≡ now (self .entry) .draft) × (now (self .exit) .book ≡ now (self .entry) .book) × (now (self .exit) .building ≡ now (self .entry) .building) ⌝ }
         ensures idle { λ r. ⌜ (r ≡ Err Unreadable → now (self .exit) ≡ now (self .entry)) ⌝ }
     {
@@ -227,7 +296,9 @@ impl Session {
         let Some(table) = &mut self.table else {
             return Err(Fault::Unreadable);
         };
-        Ok(Answer::Done(take(table, book, step)?))
+        refill(&mut self.run, places)?;
+        let reply = make(table, book, call, self.run.as_mut_slice());
+        Ok(Answer::Told(tell(self.heap, reply, self.run.as_slice())?))
     }
 
     fn cell(&self, subject: usize, object: usize) -> Result<Answer, Fault> {

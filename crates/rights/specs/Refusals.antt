@@ -5,7 +5,7 @@ use lib.Dec.{ltb}
 use Rattle.std.specs.declared.result.Result.{Result}
 use Rattle.std.specs.declared.result.Result.the-variants.{Ok, Err}
 use Rattle.rights.specs.declared.refusal.Refusal.{Refusal}
-use Rattle.rights.specs.declared.refusal.Refusal.the-variants.{Repeated, EmptyNeed, OutOfRange, SameSubject, LimitReached, NotPermitted, NotOwner, NotHeld}
+use Rattle.rights.specs.declared.refusal.Refusal.the-variants.{Repeated, EmptyNeed, OutOfRange, SameSubject, LimitReached, NotPermitted, NotOwner, NotHeld, TooShort}
 
 abbrev pub refusal-number : Refusal → ℕ
 refusal-number Repeated = 8
@@ -16,6 +16,7 @@ refusal-number LimitReached = 20
 refusal-number NotPermitted = 21
 refusal-number NotOwner = 22
 refusal-number NotHeld = 23
+refusal-number TooShort = 24
 
 -- a number below the limit is itself, any other is refused
 abbrev pub checked : ℕ → ℕ → Result ℕ Refusal

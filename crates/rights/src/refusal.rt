@@ -20,6 +20,8 @@ pub enum Refusal {
     NotOwner,
     // The right to be taken is not held.
     NotHeld,
+    // The run list that the caller brings has too few places.
+    TooShort,
 }
 
 impl Refusal {
@@ -35,6 +37,7 @@ impl Refusal {
             Refusal::NotPermitted => 21,
             Refusal::NotOwner => 22,
             Refusal::NotHeld => 23,
+            Refusal::TooShort => 24,
         }
     }
 }

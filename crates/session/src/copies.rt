@@ -2,6 +2,7 @@
 use crate::names::Names;
 use crate::walk::Watch;
 use crate::walk::accepted;
+use crate::walk::ask;
 use crate::walk::walk;
 use flags::CopyFlagBook;
 use flags::CopyFlagRules;
@@ -12,8 +13,11 @@ use monitor::Table;
 use monitor::TableDraft;
 use rights::limits::MAX_OBJECT_TYPES;
 use rights::limits::MAX_SUBJECT_TYPES;
+use safety::Question;
 use std::alloc::Global;
 use std::error::AnyError;
+
+const COPY_3: usize = 3;
 
 const COPY_2: usize = 2;
 
@@ -56,7 +60,7 @@ fn give(giver: usize, receiver: usize, right: usize) -> Watch {
     }
 }
 
-pub fn run(rt: &LibcRuntime) -> Result<(), AnyError> {
+pub fn run(rt: &LibcRuntime, list: &mut [Step]) -> Result<(), AnyError> {
     let names = Names {
         rights: &["access", "copy-1", "copy-2", "copy-3"],
         object_types: &["document"],
@@ -94,5 +98,11 @@ pub fn run(rt: &LibcRuntime) -> Result<(), AnyError> {
         },
         give(2, 1, COPY_1),
     ];
-    walk(rt, names, &book, &mut table, &watches)
+    walk(rt, names, &book, &mut table, &watches, list)?;
+    let question = Question::Can {
+        subject: 1,
+        object: 0,
+        right: COPY_3,
+    };
+    ask(rt, names, &book, &mut table, &[question], list)
 }

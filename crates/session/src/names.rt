@@ -1,6 +1,7 @@
 // The names of a task: each kind by number, from 0.
 use monitor::Step;
 use rights::Right;
+use safety::Question;
 use std::fmt;
 
 #[derive(Clone, Copy)]
@@ -47,7 +48,7 @@ pub impl fmt::Display for NamedStep<'_> as NamedStepDisplay {
             Step::Create { subject, kind } => {
                 let s = self.names.subject(subject);
                 let t = name_at(self.names.object_types, kind);
-                write!(f, "(create {s} {t})")
+                write!(f, "(create {s} * {t})")
             }
             Step::Transform {
                 subject,
@@ -82,6 +83,40 @@ pub impl fmt::Display for NamedStep<'_> as NamedStepDisplay {
                 let o = self.names.object(object);
                 let r = name_at(self.names.rights, right);
                 write!(f, "(revoke {s} {d} {o} {r})")
+            }
+        }
+    }
+}
+
+// A question with the names of its parts.
+#[derive(Clone, Copy)]
+pub struct NamedQuestion<'a> {
+    pub names: Names<'a>,
+    pub question: Question,
+}
+
+pub impl fmt::Display for NamedQuestion<'_> as NamedQuestionDisplay {
+    fn fmt<W: fmt::Write>(&self, f: &mut fmt::Formatter<W>) -> fmt::Result {
+        match self.question {
+            Question::Can {
+                subject,
+                object,
+                right,
+            } => {
+                let s = self.names.subject(subject);
+                let o = self.names.object(object);
+                let r = name_at(self.names.rights, right);
+                write!(f, "(can {s} {o} {r})")
+            }
+            Question::CanNew {
+                subject,
+                kind,
+                right,
+            } => {
+                let s = self.names.subject(subject);
+                let t = name_at(self.names.object_types, kind);
+                let r = name_at(self.names.rights, right);
+                write!(f, "(can-new {s} {t} {r})")
             }
         }
     }

@@ -3,6 +3,7 @@
 use crate::names::Names;
 use crate::walk::Watch;
 use crate::walk::accepted;
+use crate::walk::ask;
 use crate::walk::walk;
 use monitor::Step;
 use monitor::Table;
@@ -10,6 +11,7 @@ use monitor::TableDraft;
 use rows::Draft;
 use rows::RowBook;
 use rows::RowRules;
+use safety::Question;
 use std::alloc::Global;
 use std::error::AnyError;
 
@@ -116,19 +118,46 @@ fn create(subject: usize, object: usize) -> Watch {
     }
 }
 
-pub fn run(rt: &LibcRuntime) -> Result<(), AnyError> {
-    let names = Names {
+// The task with these objects named; one that is not made yet has no name.
+fn names<'a>(objects: &'a [&'a str]) -> Names<'a> {
+    Names {
         rights: &["own", "seen", "ok", "print"],
         object_types: &["paper"],
         subjects: &["ann", "ben", "cy"],
-        objects: &["p1", "p2"],
-    };
+        objects,
+    }
+}
+
+fn can(subject: usize, right: usize) -> Question {
+    Question::Can {
+        subject,
+        object: P1,
+        right,
+    }
+}
+
+fn can_new(subject: usize, right: usize) -> Question {
+    Question::CanNew {
+        subject,
+        kind: PAPER,
+        right,
+    }
+}
+
+pub fn run(rt: &LibcRuntime, list: &mut [Step]) -> Result<(), AnyError> {
     let book = book(rt.alloc())?;
     let mut table = table(rt.alloc())?;
     println!(
         rt,
         "paper review: authors ann and cy, checker ben; ann owns p1"
     )?;
+    let questions = [
+        can(ANN, PRINT),
+        can(CY, PRINT),
+        can_new(CY, PRINT),
+        can(ANN, OWN),
+    ];
+    ask(rt, names(&["p1"]), &book, &mut table, &questions, list)?;
     let watches = [
         transform(ANN, P1, PRINT),
         grant(ANN, BEN, P1, SEEN),
@@ -146,5 +175,5 @@ pub fn run(rt: &LibcRuntime) -> Result<(), AnyError> {
         grant(BEN, CY, P2, OK),
         transform(CY, P2, PRINT),
     ];
-    walk(rt, names, &book, &mut table, &watches)
+    walk(rt, names(&["p1", "p2"]), &book, &mut table, &watches, list)
 }

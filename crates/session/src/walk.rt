@@ -1,14 +1,19 @@
 // One walk through the monitor, printed line by line.
+use crate::names::NamedQuestion;
+use crate::names::NamedQuestionDisplay;
 use crate::names::NamedStep;
 use crate::names::NamedStepDisplay;
 use crate::names::Names;
 use books::RuleBook;
-use monitor::Done;
 use monitor::Step;
 use monitor::Table;
+use questions::perform;
 use rights::MembersIterator;
 use rights::Refusal;
 use rights::RightSet;
+use safety::Call;
+use safety::Question;
+use safety::Reply;
 use std::error::AnyError;
 
 // A step, and the cell to look at after it.
@@ -27,15 +32,17 @@ pub fn accepted<T>(result: Result<T, Refusal>) -> Result<T, AnyError> {
     }
 }
 
-fn print_reply(rt: &LibcRuntime, reply: Result<Done, Refusal>) -> Result<(), AnyError> {
+fn print_reply(rt: &LibcRuntime, reply: Reply) -> Result<(), AnyError> {
     match reply {
-        Ok(Done::Made(number)) => print!(rt, " (made {number})")?,
-        Ok(Done::Added(new)) => {
+        Reply::Made(number) => print!(rt, " (made {number})")?,
+        Reply::Added(new) => {
             let count = if new { 1 } else { 0 };
             print!(rt, " (added {count})")?
         }
-        Ok(Done::Taken) => print!(rt, " (taken)")?,
-        Err(refusal) => {
+        Reply::Taken => print!(rt, " (taken)")?,
+        Reply::Never => print!(rt, " (never)")?,
+        Reply::Can(count) => print!(rt, " (can {count})")?,
+        Reply::Refused(refusal) => {
             let number = refusal.number();
             print!(rt, " (refused {number})")?
         }
@@ -73,6 +80,7 @@ pub fn walk<B: RuleBook>(
     book: &B,
     table: &mut Table,
     watches: &[Watch],
+    run: &mut [Step],
 ) -> Result<(), AnyError> {
     for watch in watches {
         let step = NamedStep {
@@ -80,9 +88,37 @@ pub fn walk<B: RuleBook>(
             step: watch.step,
         };
         print!(rt, "{step}")?;
-        print_reply(rt, table.perform(book, watch.step))?;
+        print_reply(rt, perform(table, book, Call::Act(watch.step), run))?;
         let held = accepted(table.cell(watch.subject, watch.object))?;
         print_cell(rt, names, watch.subject, watch.object, held)?;
+    }
+    Ok(())
+}
+
+// Puts the questions, and prints each with its answer and the steps of the shown run.
+pub fn ask<B: RuleBook>(
+    rt: &LibcRuntime,
+    names: Names,
+    book: &B,
+    table: &mut Table,
+    questions: &[Question],
+    run: &mut [Step],
+) -> Result<(), AnyError> {
+    for question in questions {
+        let asked = NamedQuestion {
+            names,
+            question: *question,
+        };
+        print!(rt, "{asked}")?;
+        let reply = perform(table, book, Call::Ask(*question), run);
+        print_reply(rt, reply)?;
+        println!(rt)?;
+        if let Reply::Can(count) = reply {
+            for step in run.iter().take(count) {
+                let shown = NamedStep { names, step: *step };
+                println!(rt, "  {shown}")?;
+            }
+        }
     }
     Ok(())
 }

@@ -1,0 +1,5 @@
+mod Loops
+mod Turns
+mod Places
+mod Considering
+mod Verdicts

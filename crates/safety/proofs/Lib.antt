@@ -1,0 +1,9 @@
+pub mod Splits
+pub mod Columns
+pub mod Earliest
+pub mod Search
+pub mod Steps
+pub mod Guard
+pub mod Reach
+pub mod Shown
+pub mod Judge

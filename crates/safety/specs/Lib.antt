@@ -1,0 +1,4 @@
+pub mod Runs
+pub mod Rule
+pub mod Questions
+pub mod Laws
