@@ -30,9 +30,6 @@ use Rattle.questions.specs.Views.{types-of}
 use Rattle.questions.specs.Creators.{from-create, from-creators}
 
 module _ (w : ℕ) (m : Meaning) (S : State) (q : Question) (list : List Step) where
-  tail : Result (List Step × Reply) Refusal
-  tail = demand (leb (list-places w) (length list)) TooShort (Ok (told list (shown w m S q)))
-
   pub refused-range : in-range w S q ≡ false → (list, Err OutOfRange) ≡ settle list (considered w m S q list)
   refused-range out = ap (settle list) (sym (demand-failed (in-range w S q) OutOfRange _ out))
 

@@ -53,9 +53,6 @@ module _ (w : ℕ) (m : Meaning) (types : List ℕ) (t : ℕ) (cells : List ℕ)
   try-no v e = ap (λ b. cond b (Some v) None) e
 
   module _ (d : ℕ) where
-    later : Option Move
-    later = first (length types) (gifts d)
-
     -- no transform of d adds a right
     pub no-own : Clear (own d) w → first w (own d) ≡ None
     no-own clear = first-is-none w (own d) clear

@@ -12,7 +12,8 @@ use Rattle.rights.specs.Sets.{has}
 use Rattle.books.specs.Meaning.{Meaning}
 use Rattle.monitor.specs.declared.step.Step.{Step}
 use Rattle.safety.specs.declared.question.Move.{Move}
-use Rattle.safety.specs.Rule.{held, moved, step-for, next, before, stop-or-move, find, as-steps}
+use Rattle.safety.specs.Rule.{held, moved, step-for, next, before, find, as-steps}
+use Rattle.safety.proofs.Search.{find-stops, find-ends, find-goes}
 
 -- a run that goes on behind these steps
 abbrev pub onward : List Step → Option (List Step) → Option (List Step)
@@ -23,10 +24,6 @@ onward-onward : (xs ys : List Step) (o : Option (List Step)) → onward xs (onwa
 onward-onward xs ys None = refl
 onward-onward xs ys (Some zs) = ap Some (sym (append-assoc xs ys zs))
 
-pub onward-none : (o : Option (List Step)) → o ≡ onward [] o
-onward-none None = refl
-onward-none (Some xs) = refl
-
 module _ (w : ℕ) (m : Meaning) (types : List ℕ) (t s r o : ℕ) where
   -- the run in a column, as steps
   abbrev pub ahead : ℕ → List ℕ → Option (List Step)
@@ -36,35 +33,26 @@ module _ (w : ℕ) (m : Meaning) (types : List ℕ) (t s r o : ℕ) where
   before-steps v None = refl
   before-steps v (Some vs) = refl
 
-  pub stops : (fuel : ℕ) (cells : List ℕ) → has (held cells s) r ≡ true → ahead fuel cells ≡ Some []
-  unfolding find
-  stops zero cells e = ap (λ b. as-steps o (cond b (Some []) None)) e
-  stops (suc fuel) cells e = ap (λ b. as-steps o (stop-or-move b (next w m types t cells) (λ v. find w m types t s r fuel (moved cells v)))) e
+  stops : (fuel : ℕ) (cells : List ℕ) → has (held cells s) r ≡ true → ahead fuel cells ≡ Some []
+  stops fuel cells e = ap (as-steps o) (find-stops w m types t s r fuel cells e)
 
-  pub ends : (cells : List ℕ) → has (held cells s) r ≡ false → ahead 0 cells ≡ None
+  ends : (cells : List ℕ) → has (held cells s) r ≡ false → ahead 0 cells ≡ None
   unfolding find
   ends cells e = ap (λ b. as-steps o (cond b (Some []) None)) e
 
-  waits : (fuel : ℕ) (cells : List ℕ) → has (held cells s) r ≡ false → (found : Option Move) → next w m types t cells ≡ found
-      → ahead (suc fuel) cells ≡ as-steps o (stop-or-move false found (λ v. find w m types t s r fuel (moved cells v)))
-  unfolding find
-  waits fuel cells e found n =
-      ap (λ b. as-steps o (stop-or-move b (next w m types t cells) (λ v. find w m types t s r fuel (moved cells v)))) e
-      ∙ ap (λ f. as-steps o (stop-or-move false f (λ v. find w m types t s r fuel (moved cells v)))) n
-
-  pub stuck : (fuel : ℕ) (cells : List ℕ) → has (held cells s) r ≡ false → next w m types t cells ≡ None → ahead (suc fuel) cells ≡ None
-  stuck fuel cells e n = waits fuel cells e None n
+  stuck : (fuel : ℕ) (cells : List ℕ) → has (held cells s) r ≡ false → next w m types t cells ≡ None → ahead fuel cells ≡ None
+  stuck fuel cells e n = ap (as-steps o) (find-ends w m types t s r fuel cells e n)
 
   goes : (fuel : ℕ) (cells : List ℕ) (v : Move) → has (held cells s) r ≡ false → next w m types t cells ≡ Some v
       → ahead (suc fuel) cells ≡ onward (step-for o v ∷ []) (ahead fuel (moved cells v))
-  goes fuel cells v e n = waits fuel cells e (Some v) n ∙ before-steps v (find w m types t s r fuel (moved cells v))
+  goes fuel cells v e n = ap (as-steps o) (find-goes w m types t s r fuel cells v e n) ∙ before-steps v (find w m types t s r fuel (moved cells v))
 
   module _ (whole : Option (List Step)) (shown : List Step) (k : ℕ) (cells : List ℕ) where
     -- the run is found where the holding stands
     pub found-here : (fuel : ℕ) → whole ≡ onward (take k shown) (ahead fuel cells) → has (held cells s) r ≡ true → Some (take k shown) ≡ whole
     found-here fuel inv e = ap Some (sym (append-nil (take k shown))) ∙ ap (onward (take k shown)) (sym (stops fuel cells e)) ∙ sym inv
 
-    pub none-here : (fuel : ℕ) → whole ≡ onward (take k shown) (ahead (suc fuel) cells) → has (held cells s) r ≡ false → next w m types t cells ≡ None → None ≡ whole
+    pub none-here : (fuel : ℕ) → whole ≡ onward (take k shown) (ahead fuel cells) → has (held cells s) r ≡ false → next w m types t cells ≡ None → None ≡ whole
     none-here fuel inv e n = ap (onward (take k shown)) (sym (stuck fuel cells e n)) ∙ sym inv
 
     pub none-left : whole ≡ onward (take k shown) (ahead 0 cells) → has (held cells s) r ≡ false → None ≡ whole

@@ -30,10 +30,3 @@ T-and false b t = absurd t
 pub and-T : (a b : Bool) → T a → T b → T (a && b)
 and-T true b p q = q
 and-T false b p q = p
-
--- two tests that hold in the same cases are one
-pub same-test : (a b : Bool) → (T a → T b) → (T b → T a) → a ≡ b
-same-test true true f g = refl
-same-test true false f g = absurd (f tt)
-same-test false true f g = absurd (g tt)
-same-test false false f g = refl

@@ -122,19 +122,3 @@ module _ (w : ℕ) (m : Meaning) (types : List ℕ) (t : ℕ) (cells : List ℕ)
   next-split =
       split-none (next w m types t cells) _ Closed First none-at-all
       (first-split (length types) (next-to w m types t cells) None-to First next-to-split)
-
-  -- what a program's loops prove of the next move
-  settles : (o : Option Move) (v : Move) → Split o Closed First → Inside w types v → Adds v → None-before v → o ≡ Some v
-  settles None v h i a before = absurd (h v i a)
-  settles (Some u) v h i a before =
-      elim (h .first-of v i a) [ inl e ↦ (let k : u ≡ v = cc in cc) | inr l ↦ absurd (before u (h .inside) l (h .adds-right)) ]
-
-  pub next-is : (v : Move) → Inside w types v → Adds v → None-before v → next w m types t cells ≡ Some v
-  next-is v = settles (next w m types t cells) v next-split
-
-  gives-none : (o : Option Move) → Split o Closed First → Closed → o ≡ None
-  gives-none None h closed = refl
-  gives-none (Some u) h closed = absurd (closed u (h .inside) (h .adds-right))
-
-  pub next-is-none : Closed → next w m types t cells ≡ None
-  next-is-none = gives-none (next w m types t cells) next-split

@@ -8,7 +8,7 @@ use Rattle.rights.specs.Sets.{has}
 use Rattle.safety.specs.Rule.{moved}
 use Rattle.questions.specs.Views.{types-of, cells-of}
 use Rattle.questions.proofs.Loops.{next-in-range}
-use Rattle.questions.proofs.Turns.{onward, ahead, found-here, none-here, none-left, one-more, onward-none}
+use Rattle.questions.proofs.Turns.{onward, ahead, found-here, none-here, none-left, one-more}
 use Rattle.questions.proofs.search.find_run.Needs as need
 
 pub returns-then-contains : need.returns-then-contains
@@ -25,17 +25,11 @@ returns-then-contains g c =
 pub returns-in-rest : need.returns-in-rest
 returns-in-rest g c =
     let m = g .B·RuleBook .meaning (c .args .book .now) in
-    let ts = types-of (c .args .types .now) in
-    let t = c .args .kind .number in
     let r = c .args .asked .number in
-    let k = c .loop-count .count in
-    let cs = cells-of (c .loop-count .cells) in
     let lacks = ap (λ h. has h r) (sym (c .cell-at .ensures)) ∙ sym (c .if-contains .ensures tt) in
-    let fuel : 2048 - k ≡ suc (2048 - (k + 1)) = omega arith in
     record {
-      run = none-here 32 m ts t (c .args .subject) r (c .args .object) _ (c .loop-count .shown) k cs (2048 - (k + 1))
-          (c .loop-count .inv ∙ ap (λ f. onward (take k (c .loop-count .shown)) (ahead 32 m ts t (c .args .subject) r (c .args .object) f cs)) fuel)
-          lacks (sym (c .next-move .ensures) ∙ c .in-rest .is);
+      run = none-here 32 m (types-of (c .args .types .now)) (c .args .kind .number) (c .args .subject) r (c .args .object) _ (c .loop-count .shown) (c .loop-count .count)
+          (cells-of (c .loop-count .cells)) (2048 - c .loop-count .count) (c .loop-count .inv) lacks (sym (c .next-move .ensures) ∙ c .in-rest .is);
       few = tt;
     }
 
