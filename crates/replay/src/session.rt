@@ -1,9 +1,11 @@
 // The drafts, the book and the table that the calls are made on.
 ghost use mathlib.Core.Path.{_≡_};
+ghost use mathlib.Core.Bool.{true};
 ghost use Prim.Native.Nat.{min};
 ghost use lib.ListN.{length, take, replicate};
 ghost use Rattle.std.specs.Of.Vec.{vec-items};
 ghost use Rattle.std.specs.Vec.{made};
+ghost use Rattle.std.specs.shelf.Lists.{All};
 ghost use Rattle.std.specs.declared.option.Option.the-variants.{None};
 ghost use Rattle.std.specs.declared.result.Result.the-variants.{Err};
 ghost use Rattle.rights.specs.Limits.{max-rights};
@@ -120,7 +122,10 @@ const MARKER: Step = Step::Create {
     kind: 7,
 };
 
-fn is_marker(step: Step) -> bool {
+fn is_marker(step: Step) -> bool
+    ensures yes { λ b. ⌜ (b ≡ true → step ≡ Create 7 7) ⌝ }
+    ensures no { λ b. ⌜ (step ≡ Create 7 7 → b ≡ true) ⌝ }
+{
     matches!(
         step,
         Step::Create {
@@ -150,7 +155,9 @@ fn shown_length(reply: Reply) -> usize
 }
 
 // Does each of these places hold the marker?
-fn all_marked(places: &[Step]) -> bool {
+fn all_marked(places: &[Step]) -> bool
+    ensures { λ b. ⌜ (b ≡ true → All (λ s. s ≡ Create 7 7) (now (places .entry))) ⌝ }
+{
     for step in places {
         if !is_marker(*step) {
             return false;
