@@ -60,13 +60,18 @@ fn give(giver: usize, receiver: usize, right: usize) -> Watch {
     }
 }
 
-pub fn run(rt: &LibcRuntime, list: &mut [Step]) -> Result<(), AnyError> {
-    let names = Names {
+// The task's names.
+fn names<'a>() -> Names<'a> {
+    Names {
         rights: &["access", "copy-1", "copy-2", "copy-3"],
         object_types: &["document"],
         subjects: &["dan", "eve", "fay"],
         objects: &["d1"],
-    };
+    }
+}
+
+pub fn run(rt: &LibcRuntime, list: &mut [Step]) -> Result<(), AnyError> {
+    let names = names();
     let book = accepted(CopyFlagBook::new(settings()))?;
     let mut table = table(rt.alloc())?;
     println!(
