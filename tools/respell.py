@@ -67,10 +67,10 @@ def brought(text, crates):
 
 
 def clauses(text):
-    """The spans of a .rt file that hold terms of proofs."""
+    """The spans of a .rt file that hold terms of proofs, in order and apart."""
     spans = [m.span() for m in re.finditer(r"(?m)^\s*(?:pub )?ghost use [^;]*;", text)]
     spans += [m.span() for m in re.finditer(r"(?m)^\s*#!?\[tactic[^\n]*\]$", text)]
-    for m in re.finditer(r"(?m)^\s*(?:pub )?(?:requires|ensures|ghost)\b[^{\n]*\{", text):
+    for m in re.finditer(r"(?m)^\s*(?:pub )?(?:requires|ensures|ghost(?! use))\b[^{\n]*\{", text):
         deep, at = 1, m.end()
         while deep:
             deep += (text[at] == "{") - (text[at] == "}")

@@ -1,7 +1,7 @@
 // Rule books: what a subject may add, give and create, and who counts as an owner.
-ghost use Rattle.std.specs.Prelude.{◌≡◌};◌≡◌};
-ghost use Rattle.std.specs.Option.{option_map};option_map};
-ghost use Rattle.books.specs.Meaning.{Meaning, Lawful};Meaning, Lawful};
+ghost use Rattle.std.specs.Prelude.{◌≡◌};
+ghost use Rattle.std.specs.Option.{option_map};
+ghost use Rattle.books.specs.Meaning.{Meaning, Lawful};
 
 use rights::{ObjectType, Right, RightSet, SubjectType};
 

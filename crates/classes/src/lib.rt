@@ -1,7 +1,7 @@
 // The class of a byte, read from a table.
-ghost use Rattle.std.specs.Prelude.{◌≡◌};◌≡◌};
-ghost use Rattle.grammar.specs.Bytes.{class};class};
-ghost use Rattle.classes.specs.Sorts.{sort};sort};
+ghost use Rattle.std.specs.Prelude.{◌≡◌};
+ghost use Rattle.grammar.specs.Bytes.{class};
+ghost use Rattle.classes.specs.Sorts.{sort};
 
 pub mod kinds;
 mod table;

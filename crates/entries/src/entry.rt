@@ -1,5 +1,5 @@
 // An entry of some kind, with its name.
-ghost use Rattle.std.specs.Prelude.{◌≡◌, ℕ, List};◌≡◌, ℕ, List};
+ghost use Rattle.std.specs.Prelude.{◌≡◌, ℕ, List};
 
 // What is found by a name.
 pub trait Keyed: Sized {

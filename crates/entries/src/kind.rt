@@ -1,6 +1,6 @@
 // The kinds of named entry.
-ghost use Rattle.std.specs.Prelude.{◌≡◌, ℕ};◌≡◌, ℕ};
-ghost use Rattle.rights.specs.Limits.{max_rights, max_subject_types, max_object_types, max_subjects, max_objects};max_rights, max_subject_types, max_object_types, max_subjects, max_objects};
+ghost use Rattle.std.specs.Prelude.{◌≡◌, ℕ};
+ghost use Rattle.rights.specs.Limits.{max_rights, max_subject_types, max_object_types, max_subjects, max_objects};
 
 use rights::limits::{MAX_OBJECT_TYPES, MAX_OBJECTS, MAX_RIGHTS, MAX_SUBJECT_TYPES, MAX_SUBJECTS};
 

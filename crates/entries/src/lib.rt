@@ -1,6 +1,6 @@
 // Named entries: the kinds with their limits, and the one lookup that serves them all.
-ghost use Rattle.std.specs.Prelude.{◌≡◌, not, map, length, nat_lt};◌≡◌, not, map, length, nat_lt};
-ghost use Rattle.entries.specs.Lookup.{place_of, LookupFinds};place_of, LookupFinds};
+ghost use Rattle.std.specs.Prelude.{◌≡◌, not, map, length, nat_lt};
+ghost use Rattle.entries.specs.Lookup.{place_of, LookupFinds};
 
 pub mod entry;
 pub mod kind;

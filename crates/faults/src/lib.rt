@@ -1,8 +1,8 @@
 // Faults of texts, and the line that a fault names.
-ghost use Rattle.std.specs.Prelude.{◌≡◌, ◌≤◌, length};◌≡◌, ◌≤◌, length};
-ghost use Rattle.rights.specs.Refusals.{refusal_number};refusal_number};
-ghost use Rattle.faults.specs.Layers.{layer_of};layer_of};
-ghost use Rattle.faults.specs.Lines.{named_text, place_of_line, bytes_of_line, first_line, from_line, LinesFound};named_text, place_of_line, bytes_of_line, first_line, from_line, LinesFound};
+ghost use Rattle.std.specs.Prelude.{◌≡◌, ◌≤◌, length};
+ghost use Rattle.rights.specs.Refusals.{refusal_number};
+ghost use Rattle.faults.specs.Layers.{layer_of};
+ghost use Rattle.faults.specs.Lines.{named_text, place_of_line, bytes_of_line, first_line, from_line, LinesFound};
 
 mod fault;
 

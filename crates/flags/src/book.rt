@@ -1,9 +1,9 @@
 // The copy-flag book: a counted flag passes on the access and lower flags, and the unlimited flag all of them and itself.
-ghost use Rattle.std.specs.Prelude.{◌≡◌, ◌<◌, ◌≤◌};◌≡◌, ◌<◌, ◌≤◌};
-ghost use Rattle.rights.specs.Limits.{max_rights};max_rights};
-ghost use Rattle.rights.specs.Refusals.{on_ok};on_ok};
-ghost use Rattle.flags.specs.Flags.{most_flags, admitted, flag_gives, counted_give, unlimited_gives, flags_give, fresh_right, flags_meaning};most_flags, admitted, flag_gives, counted_give, unlimited_gives, flags_give, fresh_right, flags_meaning};
-ghost use Rattle.flags.specs.Passing.{flags_lawful};flags_lawful};
+ghost use Rattle.std.specs.Prelude.{◌≡◌, ◌<◌, ◌≤◌};
+ghost use Rattle.rights.specs.Limits.{max_rights};
+ghost use Rattle.rights.specs.Refusals.{on_ok};
+ghost use Rattle.flags.specs.Flags.{most_flags, admitted, flag_gives, counted_give, unlimited_gives, flags_give, fresh_right, flags_meaning};
+ghost use Rattle.flags.specs.Passing.{flags_lawful};
 
 use crate::settings::{FreshFlag, Settings};
 use books::RuleBook;

@@ -1,5 +1,5 @@
 // The copy-flag book, a rule book that is computed from a few settings and has no rows.
-ghost use Rattle.flags.specs.Flags.{FlagsMean};FlagsMean};
+ghost use Rattle.flags.specs.Flags.{FlagsMean};
 
 pub mod book;
 pub mod settings;

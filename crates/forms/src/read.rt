@@ -1,12 +1,12 @@
 // Reading a form, from the left: its head, and then what follows it.
-ghost use Rattle.std.specs.Prelude.{◌≡◌, ℕ, List};◌≡◌, ℕ, List};
-ghost use Rattle.grammar.specs.Entries.{entries};entries};
-ghost use Rattle.words.specs.Tree.{shape};shape};
-ghost use Rattle.words.specs.Taking.{ahead};ahead};
-ghost use Rattle.std.specs.Str.{bytes_eq};bytes_eq};
+ghost use Rattle.std.specs.Prelude.{◌≡◌, ℕ, List};
+ghost use Rattle.grammar.specs.Entries.{entries};
+ghost use Rattle.words.specs.Tree.{shape};
+ghost use Rattle.words.specs.Taking.{ahead};
+ghost use Rattle.std.specs.Str.{bytes_eq};
 ghost use Rattle.meaning.specs.Forms as forms;
-ghost use Rattle.meaning.specs.Forms.{head_of, form_of, form_with, the_words, word_then, at_end, create-head, itrans-head, grant-head};head_of, form_of, form_with, the_words, word_then, at_end, create-head, itrans-head, grant-head};
-ghost use Rattle.forms.specs.Views.{name_at, names_at, form_at, head_is, TakenAs, WordNext, NamesNext, NothingNext};name_at, names_at, form_at, head_is, TakenAs, WordNext, NamesNext, NothingNext};
+ghost use Rattle.meaning.specs.Forms.{head_of, form_of, form_with, the_words, word_then, at_end, create-head, itrans-head, grant-head};
+ghost use Rattle.forms.specs.Views.{name_at, names_at, form_at, head_is, TakenAs, WordNext, NamesNext, NothingNext};
 
 use crate::form::{Form, Head};
 use rights::Refusal;

@@ -1,8 +1,8 @@
 // The grammar of texts, proved over definitions: which bytes are a line, and which byte of any other text is refused.
-ghost use Rattle.grammar.specs.Claims.{GoodLinesRead, OnlyGoodLines, RefusedAtFirst, RefusalsSettle};GoodLinesRead, OnlyGoodLines, RefusedAtFirst, RefusalsSettle};
-ghost use Rattle.grammar.specs.Entries.{ItemsAreLists};ItemsAreLists};
-ghost use Rattle.grammar.specs.Texts.{TextsSplit, OneSplit};TextsSplit, OneSplit};
-ghost use Rattle.grammar.specs.Words.{WordsJudged};WordsJudged};
+ghost use Rattle.grammar.specs.Claims.{GoodLinesRead, OnlyGoodLines, RefusedAtFirst, RefusalsSettle};
+ghost use Rattle.grammar.specs.Entries.{ItemsAreLists};
+ghost use Rattle.grammar.specs.Texts.{TextsSplit, OneSplit};
+ghost use Rattle.grammar.specs.Words.{WordsJudged};
 
 // Every good line is read: its form, and what follows.
 pub fn lines_read()

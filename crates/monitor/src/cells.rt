@@ -1,12 +1,12 @@
 // Reading and writing the memory of a table.
-ghost use Rattle.std.specs.Prelude.{◌≡◌, ℕ, ◌<◌, true, ◌&&◌, length, IfOk, Ok, Err, vec_len};◌≡◌, ℕ, ◌<◌, true, ◌&&◌, length, IfOk, Ok, Err, vec_len};
-ghost use Rattle.rights.specs.Limits.{max_subjects, max_objects};max_subjects, max_objects};
-ghost use Rattle.rights.specs.Refusals.{demand, on_ok};demand, on_ok};
-ghost use Rattle.rights.specs.declared.refusal.Refusal.TheVariants.{OutOfRange};OutOfRange};
-ghost use Rattle.monitor.specs.States.{empty_table, is_subject, is_object, object, type_of, cell, in_table, with_subject, with_object, with_cell};empty_table, is_subject, is_object, object, type_of, cell, in_table, with_subject, with_object, with_cell};
-ghost use Rattle.monitor.specs.Columns.{object_of};object_of};
-ghost use Rattle.monitor.specs.Grids.{state_of};state_of};
-ghost use Rattle.monitor.specs.Places.{place_in, place_of};place_in, place_of};
+ghost use Rattle.std.specs.Prelude.{◌≡◌, ℕ, ◌<◌, true, ◌&&◌, length, IfOk, Ok, Err, vec_len};
+ghost use Rattle.rights.specs.Limits.{max_subjects, max_objects};
+ghost use Rattle.rights.specs.Refusals.{demand, on_ok};
+ghost use Rattle.rights.specs.declared.refusal.Refusal.TheVariants.{OutOfRange};
+ghost use Rattle.monitor.specs.States.{empty_table, is_subject, is_object, object, type_of, cell, in_table, with_subject, with_object, with_cell};
+ghost use Rattle.monitor.specs.Columns.{object_of};
+ghost use Rattle.monitor.specs.Grids.{state_of};
+ghost use Rattle.monitor.specs.Places.{place_in, place_of};
 
 use crate::column::Column;
 use crate::grid::Grid;

@@ -1,9 +1,9 @@
 // A table being built.
-ghost use Rattle.std.specs.Prelude.{◌≡◌, IfOk};◌≡◌, IfOk};
-ghost use Rattle.rights.specs.Limits.{max_rights};max_rights};
-ghost use Rattle.monitor.specs.States.{empty_table};empty_table};
-ghost use Rattle.monitor.specs.Machine.{build_subject, build_object, build_holding};build_subject, build_object, build_holding};
-ghost use Rattle.monitor.specs.Grids.{state_of};state_of};
+ghost use Rattle.std.specs.Prelude.{◌≡◌, IfOk};
+ghost use Rattle.rights.specs.Limits.{max_rights};
+ghost use Rattle.monitor.specs.States.{empty_table};
+ghost use Rattle.monitor.specs.Machine.{build_subject, build_object, build_holding};
+ghost use Rattle.monitor.specs.Grids.{state_of};
 
 use crate::grid::Grid;
 use crate::table::Table;

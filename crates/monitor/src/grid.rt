@@ -1,7 +1,7 @@
 // The memory of a table.
-ghost use Rattle.std.specs.Prelude.{◌≤◌, vec_len, vec_capacity};◌≤◌, vec_len, vec_capacity};
-ghost use Rattle.rights.specs.Limits.{max_subjects, max_objects};max_subjects, max_objects};
-ghost use Rattle.monitor.specs.Columns.{Full, Blank};Full, Blank};
+ghost use Rattle.std.specs.Prelude.{◌≤◌, vec_len, vec_capacity};
+ghost use Rattle.rights.specs.Limits.{max_subjects, max_objects};
+ghost use Rattle.monitor.specs.Columns.{Full, Blank};
 
 use crate::column::Column;
 use rights::SubjectType;

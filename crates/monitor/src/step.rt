@@ -1,6 +1,6 @@
 // The steps of the monitor, by number, and what it answers to a step that it accepts.
-ghost use Rattle.std.specs.Prelude.{◌≡◌};◌≡◌};
-ghost use Rattle.monitor.specs.Answers.{answer_number};answer_number};
+ghost use Rattle.std.specs.Prelude.{◌≡◌};
+ghost use Rattle.monitor.specs.Answers.{answer_number};
 
 #[derive(Clone, Copy)]
 pub enum Step {

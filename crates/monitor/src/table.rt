@@ -1,14 +1,14 @@
 // The table, and the monitor that performs or refuses steps on it.
-ghost use Rattle.std.specs.Prelude.{◌≡◌, ◌≤◌, true, map, length, IfOk, Ok};◌≡◌, ◌≤◌, true, map, length, IfOk, Ok};
-ghost use Rattle.rights.specs.Limits.{max_rights, max_subjects};max_rights, max_subjects};
-ghost use Rattle.rights.specs.Refusals.{demand, on_ok};demand, on_ok};
-ghost use Rattle.rights.specs.declared.refusal.Refusal.TheVariants.{OutOfRange};OutOfRange};
-ghost use Rattle.monitor.specs.declared.step.Step.TheVariants.{Create, Transform, Grant, Revoke};Create, Transform, Grant, Revoke};
-ghost use Rattle.monitor.specs.States.{object as object-in, cell as cell_in, is_object, in_table};object as object-in, cell as cell_in, is_object, in_table};
-ghost use Rattle.monitor.specs.Columns.{object_of};object_of};
-ghost use Rattle.monitor.specs.Machine.{join as join-in, owns, perform as performed};join as join-in, owns, perform as performed};
-ghost use Rattle.monitor.specs.Laws.{Obeys};Obeys};
-ghost use Rattle.monitor.specs.Grids.{state_of};state_of};
+ghost use Rattle.std.specs.Prelude.{◌≡◌, ◌≤◌, true, map, length, IfOk, Ok};
+ghost use Rattle.rights.specs.Limits.{max_rights, max_subjects};
+ghost use Rattle.rights.specs.Refusals.{demand, on_ok};
+ghost use Rattle.rights.specs.declared.refusal.Refusal.TheVariants.{OutOfRange};
+ghost use Rattle.monitor.specs.declared.step.Step.TheVariants.{Create, Transform, Grant, Revoke};
+ghost use Rattle.monitor.specs.States.{object as object-in, cell as cell_in, is_object, in_table};
+ghost use Rattle.monitor.specs.Columns.{object_of};
+ghost use Rattle.monitor.specs.Machine.{join as join-in, owns, perform as performed};
+ghost use Rattle.monitor.specs.Laws.{Obeys};
+ghost use Rattle.monitor.specs.Grids.{state_of};
 
 use crate::column::Column;
 use crate::grid::Grid;

@@ -1,16 +1,16 @@
 // The two questions.
-ghost use Rattle.std.specs.Prelude.{◌≡◌, ℕ, ◌+◌, ◌<◌, ◌≤◌, true, ◌∷◌, ◌++◌, length, take, drop, IfSome, Some, slice_index};◌≡◌, ℕ, ◌+◌, ◌<◌, ◌≤◌, true, ◌∷◌, ◌++◌, length, take, drop, IfSome, Some, slice_index};
-ghost use Rattle.std.specs.Option.{option_map};option_map};
-ghost use Rattle.rights.specs.Limits.{max_rights, max_subjects};max_rights, max_subjects};
-ghost use Rattle.monitor.specs.declared.step.Step.TheVariants.{Create};Create};
-ghost use Rattle.safety.specs.Rule.{find, as_steps, most_moves, fresh};find, as_steps, most_moves, fresh};
-ghost use Rattle.monitor.specs.Columns.{object_of};object_of};
-ghost use Rattle.questions.specs.Views.{types_of};types_of};
-ghost use Rattle.questions.specs.Creators.{from_create, from_creators};from_create, from_creators};
-ghost use Rattle.rights.specs.Refusals.{settle};settle};
-ghost use Rattle.monitor.specs.Grids.{state_of};state_of};
-ghost use Rattle.safety.specs.declared.question.Question.TheVariants.{Can, CanNew};Can, CanNew};
-ghost use Rattle.safety.specs.Questions.{told, list_places, considered};told, list_places, considered};
+ghost use Rattle.std.specs.Prelude.{◌≡◌, ℕ, ◌+◌, ◌<◌, ◌≤◌, true, ◌∷◌, ◌++◌, length, take, drop, IfSome, Some, slice_index};
+ghost use Rattle.std.specs.Option.{option_map};
+ghost use Rattle.rights.specs.Limits.{max_rights, max_subjects};
+ghost use Rattle.monitor.specs.declared.step.Step.TheVariants.{Create};
+ghost use Rattle.safety.specs.Rule.{find, as_steps, most_moves, fresh};
+ghost use Rattle.monitor.specs.Columns.{object_of};
+ghost use Rattle.questions.specs.Views.{types_of};
+ghost use Rattle.questions.specs.Creators.{from_create, from_creators};
+ghost use Rattle.rights.specs.Refusals.{settle};
+ghost use Rattle.monitor.specs.Grids.{state_of};
+ghost use Rattle.safety.specs.declared.question.Question.TheVariants.{Can, CanNew};
+ghost use Rattle.safety.specs.Questions.{told, list_places, considered};
 
 use crate::search::{MAX_MOVES, find_run, type_at};
 use books::RuleBook;

@@ -1,10 +1,10 @@
 // The calls that a program makes: the two questions, and one call for all six.
-ghost use Rattle.std.specs.Prelude.{◌≡◌};◌≡◌};
-ghost use Rattle.rights.specs.Limits.{max_rights};max_rights};
-ghost use Rattle.monitor.specs.Grids.{state_of};state_of};
-ghost use Rattle.safety.specs.declared.question.Question.TheVariants.{Can, CanNew};Can, CanNew};
-ghost use Rattle.safety.specs.Questions.{reply_from, step_reply, asked, called};reply_from, step_reply, asked, called};
-ghost use Rattle.safety.specs.Laws.{Judged, ListsJudged, CallJudged};Judged, ListsJudged, CallJudged};
+ghost use Rattle.std.specs.Prelude.{◌≡◌};
+ghost use Rattle.rights.specs.Limits.{max_rights};
+ghost use Rattle.monitor.specs.Grids.{state_of};
+ghost use Rattle.safety.specs.declared.question.Question.TheVariants.{Can, CanNew};
+ghost use Rattle.safety.specs.Questions.{reply_from, step_reply, asked, called};
+ghost use Rattle.safety.specs.Laws.{Judged, ListsJudged, CallJudged};
 
 use crate::ask::{consider_new, consider_old};
 use books::RuleBook;

@@ -1,10 +1,10 @@
 // The search in one column of the table.
-ghost use Rattle.std.specs.Prelude.{◌≡◌, ◌<◌, ◌≤◌, not, ◌&&◌, length, take, IfSome, slice_index, slice_set};◌≡◌, ◌<◌, ◌≤◌, not, ◌&&◌, length, take, IfSome, slice_index, slice_set};
-ghost use Rattle.std.specs.Option.{option_map};option_map};
-ghost use Rattle.rights.specs.Limits.{max_rights};max_rights};
-ghost use Rattle.rights.specs.Sets.{has, add};has, add};
-ghost use Rattle.safety.specs.Rule.{held, receiver as receiver-of, right as right_of, moved, step_for, next, find, as_steps, most_moves};held, receiver as receiver-of, right as right_of, moved, step_for, next, find, as_steps, most_moves};
-ghost use Rattle.questions.specs.Views.{types_of, cells_of};types_of, cells_of};
+ghost use Rattle.std.specs.Prelude.{◌≡◌, ◌<◌, ◌≤◌, not, ◌&&◌, length, take, IfSome, slice_index, slice_set};
+ghost use Rattle.std.specs.Option.{option_map};
+ghost use Rattle.rights.specs.Limits.{max_rights};
+ghost use Rattle.rights.specs.Sets.{has, add};
+ghost use Rattle.safety.specs.Rule.{held, receiver as receiver-of, right as right_of, moved, step_for, next, find, as_steps, most_moves};
+ghost use Rattle.questions.specs.Views.{types_of, cells_of};
 
 use books::RuleBook;
 use monitor::Step;

@@ -1,13 +1,13 @@
 // What a form declares: its names are looked up from left to right, then the declaration is made by number.
-ghost use Rattle.std.specs.Prelude.{◌≡◌};◌≡◌};
-ghost use Rattle.grammar.specs.Entries.{entries};entries};
-ghost use Rattle.words.specs.Tree.{shape};shape};
+ghost use Rattle.std.specs.Prelude.{◌≡◌};
+ghost use Rattle.grammar.specs.Entries.{entries};
+ghost use Rattle.words.specs.Tree.{shape};
 ghost use Rattle.meaning.specs.Forms as forms;
-ghost use Rattle.meaning.specs.Forms.{create, itrans, grant, owner};create, itrans, grant, owner};
-ghost use Rattle.meaning.specs.Schemes.{at_place, found, all_found, meant, line_meant};at_place, found, all_found, meant, line_meant};
-ghost use Rattle.forms.specs.Views.{name_at, names_at, form_at};name_at, names_at, form_at};
-ghost use Rattle.schemes.specs.Views.{draft_of};draft_of};
-ghost use Rattle.readings.specs.Results.{Answered, DeclaredAs};Answered, DeclaredAs};
+ghost use Rattle.meaning.specs.Forms.{create, itrans, grant, owner};
+ghost use Rattle.meaning.specs.Schemes.{at_place, found, all_found, meant, line_meant};
+ghost use Rattle.forms.specs.Views.{name_at, names_at, form_at};
+ghost use Rattle.schemes.specs.Views.{draft_of};
+ghost use Rattle.readings.specs.Results.{Answered, DeclaredAs};
 
 use forms::{Form, read_form, word_bytes};
 use rights::Refusal;

@@ -1,10 +1,10 @@
 // Reading a scheme text, line by line; the first faulty line decides.
-ghost use Rattle.std.specs.Prelude.{◌≡◌};◌≡◌};
-ghost use Rattle.meaning.specs.Schemes.{in_scheme, scheme_text};in_scheme, scheme_text};
-ghost use Rattle.schemes.specs.Views.{draft_of, scheme_of};draft_of, scheme_of};
-ghost use Rattle.readings.specs.Results.{stopped_at, denied_at, ReadAs, FilledAs, MeansIfRead};stopped_at, denied_at, ReadAs, FilledAs, MeansIfRead};
+ghost use Rattle.std.specs.Prelude.{◌≡◌};
+ghost use Rattle.meaning.specs.Schemes.{in_scheme, scheme_text};
+ghost use Rattle.schemes.specs.Views.{draft_of, scheme_of};
+ghost use Rattle.readings.specs.Results.{stopped_at, denied_at, ReadAs, FilledAs, MeansIfRead};
 ghost use Rattle.readings.specs.declared.failure.Failure.TheVariants as failure;
-ghost use Rattle.readings.specs.declared.failure.Failure.TheVariants.{Memory};Memory};
+ghost use Rattle.readings.specs.declared.failure.Failure.TheVariants.{Memory};
 
 use crate::declare::declare_line;
 use crate::failure::Failure;

@@ -1,8 +1,8 @@
 // The calls that a line can name, and how a line is read.
-ghost use Rattle.std.specs.Prelude.{◌≡◌, IfOk, if◌then◌else◌, Some, None, codes, nat_le};◌≡◌, IfOk, if◌then◌else◌, Some, None, codes, nat_le};
-ghost use Rattle.rights.specs.Limits.{max_rights};max_rights};
-ghost use Rattle.safety.specs.declared.question.Call.TheVariants.{Act, Ask};Act, Ask};
-ghost use Rattle.safety.specs.Questions.{list_places};list_places};
+ghost use Rattle.std.specs.Prelude.{◌≡◌, IfOk, if◌then◌else◌, Some, None, codes, nat_le};
+ghost use Rattle.rights.specs.Limits.{max_rights};
+ghost use Rattle.safety.specs.declared.question.Call.TheVariants.{Act, Ask};
+ghost use Rattle.safety.specs.Questions.{list_places};
 
 use crate::fault::Fault;
 use flags::{FreshFlag, Settings};

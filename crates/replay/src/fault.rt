@@ -1,6 +1,6 @@
 // Why a line has no answer of its own.
-ghost use Rattle.std.specs.Prelude.{◌≡◌};◌≡◌};
-ghost use Rattle.replay.specs.declared.fault.Fault.TheVariants.{Unreadable, Refused as Refused-call, Memory};Unreadable, Refused as Refused-call, Memory};
+ghost use Rattle.std.specs.Prelude.{◌≡◌};
+ghost use Rattle.replay.specs.declared.fault.Fault.TheVariants.{Unreadable, Refused as Refused-call, Memory};
 
 use rights::Refusal;
 use std::alloc::{AllocError, AllocFailed};

@@ -1,13 +1,13 @@
 // The drafts, the book and the table that the calls are made on.
-ghost use Rattle.std.specs.Prelude.{◌≡◌, min, true, length, take, replicate, IfOk, None, Err, OnOk};◌≡◌, min, true, length, take, replicate, IfOk, None, Err, OnOk};
-ghost use Rattle.std.specs.List.{AllByRecursion as All};AllByRecursion as All};
-ghost use Rattle.rights.specs.Limits.{max_rights};max_rights};
-ghost use Rattle.rows.specs.Books.{declared_of};declared_of};
-ghost use Rattle.monitor.specs.declared.step.Step.TheVariants.{Create};Create};
-ghost use Rattle.monitor.specs.Grids.{state_of};state_of};
-ghost use Rattle.safety.specs.Questions.{called};called};
-ghost use Rattle.replay.specs.declared.fault.Fault.TheVariants.{Unreadable};Unreadable};
-ghost use Rattle.replay.specs.Calls.{rules_in, built, declared_by, shown_length};rules_in, built, declared_by, shown_length};
+ghost use Rattle.std.specs.Prelude.{◌≡◌, min, true, length, take, replicate, IfOk, None, Err, OnOk};
+ghost use Rattle.std.specs.List.{AllByRecursion as All};
+ghost use Rattle.rights.specs.Limits.{max_rights};
+ghost use Rattle.rows.specs.Books.{declared_of};
+ghost use Rattle.monitor.specs.declared.step.Step.TheVariants.{Create};
+ghost use Rattle.monitor.specs.Grids.{state_of};
+ghost use Rattle.safety.specs.Questions.{called};
+ghost use Rattle.replay.specs.declared.fault.Fault.TheVariants.{Unreadable};
+ghost use Rattle.replay.specs.Calls.{rules_in, built, declared_by, shown_length};
 
 use crate::answer::{Answer, Holding, Told};
 use crate::command::{Building, Command, Declaration};

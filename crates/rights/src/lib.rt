@@ -1,5 +1,5 @@
 // Sets of rights, the checked numbers of rights and types, the limits, and the refusals.
-ghost use Rattle.rights.specs.Sets.{SetLaws};SetLaws};
+ghost use Rattle.rights.specs.Sets.{SetLaws};
 
 pub mod limits;
 pub mod objects;

@@ -1,7 +1,7 @@
 // Checked numbers of object types.
-ghost use Rattle.std.specs.Prelude.{◌≡◌, ◌<◌};◌≡◌, ◌<◌};
-ghost use Rattle.rights.specs.Limits.{max_object_types};max_object_types};
-ghost use Rattle.rights.specs.Refusals.{checked, on_ok};checked, on_ok};
+ghost use Rattle.std.specs.Prelude.{◌≡◌, ◌<◌};
+ghost use Rattle.rights.specs.Limits.{max_object_types};
+ghost use Rattle.rights.specs.Refusals.{checked, on_ok};
 
 use crate::limits::MAX_OBJECT_TYPES;
 use crate::refusal::Refusal;

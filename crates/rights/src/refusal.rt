@@ -1,6 +1,6 @@
 // Why a call is refused, and the number that a user sees.
-ghost use Rattle.std.specs.Prelude.{◌≡◌};◌≡◌};
-ghost use Rattle.rights.specs.Refusals.{refusal_number};refusal_number};
+ghost use Rattle.std.specs.Prelude.{◌≡◌};
+ghost use Rattle.rights.specs.Refusals.{refusal_number};
 
 #[derive(Clone, Copy, PartialEq, Eq, Debug)]
 pub enum Refusal {

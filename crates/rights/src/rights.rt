@@ -1,7 +1,7 @@
 // Checked numbers of rights: a value of this type is in range, so what takes one has nothing left to test.
-ghost use Rattle.std.specs.Prelude.{◌≡◌, ◌<◌};◌≡◌, ◌<◌};
-ghost use Rattle.rights.specs.Limits.{max_rights};max_rights};
-ghost use Rattle.rights.specs.Refusals.{checked, on_ok};checked, on_ok};
+ghost use Rattle.std.specs.Prelude.{◌≡◌, ◌<◌};
+ghost use Rattle.rights.specs.Limits.{max_rights};
+ghost use Rattle.rights.specs.Refusals.{checked, on_ok};
 
 use crate::limits::MAX_RIGHTS;
 use crate::refusal::Refusal;

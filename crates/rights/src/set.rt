@@ -1,9 +1,9 @@
 // Sets of rights: a binary digit for each right, seen by nobody outside this file.
-ghost use Rattle.std.specs.Prelude.{◌≡◌, ◌==◌};◌≡◌, ◌==◌};
-ghost use Rattle.std.specs.Option.{option_map};option_map};
-ghost use Rattle.rights.specs.Limits.{max_rights};max_rights};
-ghost use Rattle.rights.specs.Sets.{has, add, remove, either, inside, below, nothing, lowest_right, leave_out};has, add, remove, either, inside, below, nothing, lowest_right, leave_out};
-ghost use Rattle.std.specs.Iterator.{at_most};at_most};
+ghost use Rattle.std.specs.Prelude.{◌≡◌, ◌==◌};
+ghost use Rattle.std.specs.Option.{option_map};
+ghost use Rattle.rights.specs.Limits.{max_rights};
+ghost use Rattle.rights.specs.Sets.{has, add, remove, either, inside, below, nothing, lowest_right, leave_out};
+ghost use Rattle.std.specs.Iterator.{at_most};
 
 use crate::rights::Right;
 

@@ -1,10 +1,10 @@
 // The fixed book: rows that answer questions.
-ghost use Rattle.std.specs.Prelude.{◌≡◌, Some, None};◌≡◌, Some, None};
-ghost use Rattle.std.specs.Option.{option_map};option_map};
-ghost use Rattle.rows.specs.Rules.{same_receiver, applies, gathered, created, is_pair, book_meaning, empty_book};same_receiver, applies, gathered, created, is_pair, book_meaning, empty_book};
-ghost use Rattle.rows.specs.Views.{rule_of, rules_of, creation_of, creations_of};rule_of, rules_of, creation_of, creations_of};
-ghost use Rattle.rows.specs.Books.{book_of};book_of};
-ghost use Rattle.rows.specs.Gathering.{book_lawful};book_lawful};
+ghost use Rattle.std.specs.Prelude.{◌≡◌, Some, None};
+ghost use Rattle.std.specs.Option.{option_map};
+ghost use Rattle.rows.specs.Rules.{same_receiver, applies, gathered, created, is_pair, book_meaning, empty_book};
+ghost use Rattle.rows.specs.Views.{rule_of, rules_of, creation_of, creations_of};
+ghost use Rattle.rows.specs.Books.{book_of};
+ghost use Rattle.rows.specs.Gathering.{book_lawful};
 
 use crate::row::{Creation, Row};
 use crate::table::RowTable;

@@ -1,15 +1,15 @@
 // The declarations of a draft. Each takes any numbers, and is refused by the first test that fails: a number that is not
 // declared (10), something declared already (8), an empty need (9), a limit (20). A refused one alters nothing.
-ghost use Rattle.std.specs.Prelude.{◌≡◌, true, not, length, is_some, IfOk, Some, None, Ok, Err, nat_lt};◌≡◌, true, not, length, is_some, IfOk, Some, None, Ok, Err, nat_lt};
-ghost use Rattle.std.specs.Option.{option_map};option_map};
-ghost use Rattle.rights.specs.Limits.{max_rights, max_rows};max_rights, max_rows};
-ghost use Rattle.rights.specs.Refusals.{checked, demand, settle, on_ok};checked, demand, settle, on_ok};
-ghost use Rattle.rights.specs.declared.refusal.Refusal.TheVariants.{Repeated, OutOfRange, LimitReached};Repeated, OutOfRange, LimitReached};
-ghost use Rattle.rows.specs.Lists.{twice, all_below, set_of};twice, all_below, set_of};
-ghost use Rattle.rows.specs.Drafts.{nothing_declared, declare_right, declare_subject_type, declare_object_type, declare_owner, declare_creation, declare_row, rule_from, receiver_declared};nothing_declared, declare_right, declare_subject_type, declare_object_type, declare_owner, declare_creation, declare_row, rule_from, receiver_declared};
-ghost use Rattle.rows.specs.Views.{rule_of, creation_of};rule_of, creation_of};
-ghost use Rattle.rows.specs.Rules.{created, more_rules, more_creations};created, more_rules, more_creations};
-ghost use Rattle.rows.specs.Books.{book_of, declared_of};book_of, declared_of};
+ghost use Rattle.std.specs.Prelude.{◌≡◌, true, not, length, is_some, IfOk, Some, None, Ok, Err, nat_lt};
+ghost use Rattle.std.specs.Option.{option_map};
+ghost use Rattle.rights.specs.Limits.{max_rights, max_rows};
+ghost use Rattle.rights.specs.Refusals.{checked, demand, settle, on_ok};
+ghost use Rattle.rights.specs.declared.refusal.Refusal.TheVariants.{Repeated, OutOfRange, LimitReached};
+ghost use Rattle.rows.specs.Lists.{twice, all_below, set_of};
+ghost use Rattle.rows.specs.Drafts.{nothing_declared, declare_right, declare_subject_type, declare_object_type, declare_owner, declare_creation, declare_row, rule_from, receiver_declared};
+ghost use Rattle.rows.specs.Views.{rule_of, creation_of};
+ghost use Rattle.rows.specs.Rules.{created, more_rules, more_creations};
+ghost use Rattle.rows.specs.Books.{book_of, declared_of};
 
 use crate::book::{RowBook, find_creation};
 use crate::draft::Draft;

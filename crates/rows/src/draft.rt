@@ -1,6 +1,6 @@
 // A draft of a row book.
-ghost use Rattle.std.specs.Prelude.{◌≤◌};◌≤◌};
-ghost use Rattle.rights.specs.Limits.{max_rights, max_subject_types, max_object_types};max_rights, max_subject_types, max_object_types};
+ghost use Rattle.std.specs.Prelude.{◌≤◌};
+ghost use Rattle.rights.specs.Limits.{max_rights, max_subject_types, max_object_types};
 
 use crate::table::RowTable;
 

@@ -1,5 +1,5 @@
 // The row book: rules as rows, declared one by one in a draft, then fixed.
-ghost use Rattle.rows.specs.Rules.{RulesMean};RulesMean};
+ghost use Rattle.rows.specs.Rules.{RulesMean};
 
 pub mod book;
 pub mod declare;

@@ -1,8 +1,8 @@
 // The rows and creations of a book, in the order of declaration.
-ghost use Rattle.std.specs.Prelude.{◌≡◌, ◌*◌, ◌≤◌, false, map, vec_len, vec_capacity};◌≡◌, ◌*◌, ◌≤◌, false, map, vec_len, vec_capacity};
-ghost use Rattle.rights.specs.Limits.{max_rows, max_subject_types, max_object_types};max_rows, max_subject_types, max_object_types};
-ghost use Rattle.rows.specs.Lists.{twice};twice};
-ghost use Rattle.rows.specs.Views.{creations_of, pair_number};creations_of, pair_number};
+ghost use Rattle.std.specs.Prelude.{◌≡◌, ◌*◌, ◌≤◌, false, map, vec_len, vec_capacity};
+ghost use Rattle.rights.specs.Limits.{max_rows, max_subject_types, max_object_types};
+ghost use Rattle.rows.specs.Lists.{twice};
+ghost use Rattle.rows.specs.Views.{creations_of, pair_number};
 
 use crate::row::{Creation, Row};
 use rights::Right;

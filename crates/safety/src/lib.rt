@@ -1,7 +1,7 @@
 // The safety questions: what is asked, what is answered, and the run rule and the law in specs/.
 pub mod question;
 
-ghost use Rattle.safety.specs.Laws.{QuestionsJudged, RuleFollowed};QuestionsJudged, RuleFollowed};
+ghost use Rattle.safety.specs.Laws.{QuestionsJudged, RuleFollowed};
 
 pub use question::{Call, Move, Question, Reply};
 

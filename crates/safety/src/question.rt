@@ -1,6 +1,6 @@
 // Questions, calls and their answers, by number.
-ghost use Rattle.std.specs.Prelude.{◌≡◌};◌≡◌};
-ghost use Rattle.safety.specs.Questions.{reply_value};reply_value};
+ghost use Rattle.std.specs.Prelude.{◌≡◌};
+ghost use Rattle.safety.specs.Questions.{reply_value};
 
 use monitor::Step;
 use rights::Refusal;

@@ -1,13 +1,13 @@
 // The declarations of a scheme. Each is refused by the first test that fails: a new name that is no word (2, 5 or else 3),
 // a number that is not declared (10), something declared already (8), an empty need (9), a limit (20). A refused one, or
 // one that finds no memory for a name, alters nothing.
-ghost use Rattle.std.specs.Prelude.{◌≡◌, IfOk, Some, None};◌≡◌, IfOk, Some, None};
-ghost use Rattle.rights.specs.Refusals.{settle};settle};
-ghost use Rattle.entries.specs.Lookup.{place_of};place_of};
-ghost use Rattle.meaning.specs.Named.{nothing_named};nothing_named};
-ghost use Rattle.meaning.specs.Declarations.{type_taken, right_named, subject_type_named, object_type_named, owner_set, creation_added, row_added};type_taken, right_named, subject_type_named, object_type_named, owner_set, creation_added, row_added};
-ghost use Rattle.schemes.specs.Calls.{CarriedOut};CarriedOut};
-ghost use Rattle.schemes.specs.Views.{draft_of, scheme_of};draft_of, scheme_of};
+ghost use Rattle.std.specs.Prelude.{◌≡◌, IfOk, Some, None};
+ghost use Rattle.rights.specs.Refusals.{settle};
+ghost use Rattle.entries.specs.Lookup.{place_of};
+ghost use Rattle.meaning.specs.Named.{nothing_named};
+ghost use Rattle.meaning.specs.Declarations.{type_taken, right_named, subject_type_named, object_type_named, owner_set, creation_added, row_added};
+ghost use Rattle.schemes.specs.Calls.{CarriedOut};
+ghost use Rattle.schemes.specs.Views.{draft_of, scheme_of};
 
 use crate::draft::SchemeDraft;
 use crate::enter::enter;

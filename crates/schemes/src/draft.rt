@@ -1,5 +1,5 @@
 // A draft of a scheme: a draft of a row book, with the names of its rights and types.
-ghost use Rattle.std.specs.Prelude.{◌≡◌, vec_len};◌≡◌, vec_len};
+ghost use Rattle.std.specs.Prelude.{◌≡◌, vec_len};
 
 use entries::Entry;
 use entries::kind::{ObjectTypeKind, RightKind, SubjectTypeKind};

@@ -1,7 +1,7 @@
 // One more named entry of any kind.
-ghost use Rattle.std.specs.Prelude.{map};map};
-ghost use Rattle.schemes.specs.Calls.{CarriedOut, entered};CarriedOut, entered};
-ghost use Rattle.schemes.specs.Views.{names_in};names_in};
+ghost use Rattle.std.specs.Prelude.{map};
+ghost use Rattle.schemes.specs.Calls.{CarriedOut, entered};
+ghost use Rattle.schemes.specs.Views.{names_in};
 
 use entries::{Entry, Kind, is_full};
 use rights::Refusal;

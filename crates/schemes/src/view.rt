@@ -1,8 +1,8 @@
 // What a scheme tells.
-ghost use Rattle.std.specs.Prelude.{◌≡◌};◌≡◌};
-ghost use Rattle.rows.specs.Books.{book_of};book_of};
-ghost use Rattle.meaning.specs.Named.{nothing_named};nothing_named};
-ghost use Rattle.schemes.specs.Views.{names_in, scheme_of};names_in, scheme_of};
+ghost use Rattle.std.specs.Prelude.{◌≡◌};
+ghost use Rattle.rows.specs.Books.{book_of};
+ghost use Rattle.meaning.specs.Named.{nothing_named};
+ghost use Rattle.schemes.specs.Views.{names_in, scheme_of};
 
 use crate::scheme::Scheme;
 use entries::Entry;

@@ -1,5 +1,5 @@
 // The frames of texts in the input.
-ghost use Rattle.std.specs.Prelude.{◌<◌, ◌≤◌, length, IfSome};◌<◌, ◌≤◌, length, IfSome};
+ghost use Rattle.std.specs.Prelude.{◌<◌, ◌≤◌, length, IfSome};
 
 // Where the next text begins and ends, from this place of the input on.
 pub fn next_text(input: &[u8], from: usize) -> Option<(usize, usize)>

@@ -1,6 +1,6 @@
 // The items of a list, to be taken from the left one by one.
-ghost use Rattle.std.specs.Prelude.{◌≡◌, ℕ, List, IfOk};◌≡◌, ℕ, List, IfOk};
-ghost use Rattle.words.specs.Taking.{ahead, is_none_left, MadeOf, WordTaken, ListTaken};ahead, is_none_left, MadeOf, WordTaken, ListTaken};
+ghost use Rattle.std.specs.Prelude.{◌≡◌, ℕ, List, IfOk};
+ghost use Rattle.words.specs.Taking.{ahead, is_none_left, MadeOf, WordTaken, ListTaken};
 
 use crate::tree::{Item, Items, Word};
 use std::alloc::{AllocError, Global};

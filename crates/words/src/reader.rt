@@ -1,9 +1,9 @@
 // The reader of a line.
-ghost use Rattle.std.specs.Prelude.{◌≡◌, ◌-◌, ◌<◌, ◌≤◌, length, MatchResult, slice_index};◌≡◌, ◌-◌, ◌<◌, ◌≤◌, length, MatchResult, slice_index};
-ghost use Rattle.grammar.specs.Bytes.{class, word_byte};class, word_byte};
-ghost use Rattle.grammar.specs.Limits.{max_depth};max_depth};
-ghost use Rattle.grammar.specs.Reader.{read};read};
-ghost use Rattle.words.specs.Tree.{shape, Refuses, WordEnds, ItemRead, ListRead, LineRead, WordRefused, ItemRefused, ListRefused, ItemDue, LineStands, LineFails};shape, Refuses, WordEnds, ItemRead, ListRead, LineRead, WordRefused, ItemRefused, ListRefused, ItemDue, LineStands, LineFails};
+ghost use Rattle.std.specs.Prelude.{◌≡◌, ◌-◌, ◌<◌, ◌≤◌, length, MatchResult, slice_index};
+ghost use Rattle.grammar.specs.Bytes.{class, word_byte};
+ghost use Rattle.grammar.specs.Limits.{max_depth};
+ghost use Rattle.grammar.specs.Reader.{read};
+ghost use Rattle.words.specs.Tree.{shape, Refuses, WordEnds, ItemRead, ListRead, LineRead, WordRefused, ItemRefused, ListRefused, ItemDue, LineStands, LineFails};
 
 use crate::limits::{MAX_DEPTH, MAX_WORD};
 use crate::stop::Stop;

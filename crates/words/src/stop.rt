@@ -1,5 +1,5 @@
 // Why a reading ends without an answer.
-ghost use Rattle.std.specs.Prelude.{◌≡◌};◌≡◌};
+ghost use Rattle.std.specs.Prelude.{◌≡◌};
 ghost use Rattle.words.specs.declared.stop.Stop.TheVariants as stops;
 ghost use Rattle.words.specs.declared.stop.Denial.TheVariants as denials;
 

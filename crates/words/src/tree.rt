@@ -1,6 +1,6 @@
 // The form of a line, by places in the line's text.
-ghost use Rattle.std.specs.Prelude.{◌≡◌};◌≡◌};
-ghost use Rattle.words.specs.Tree.{last_item};last_item};
+ghost use Rattle.std.specs.Prelude.{◌≡◌};
+ghost use Rattle.words.specs.Tree.{last_item};
 
 // A word: its bytes begin at `from` and end before `upto`.
 #[derive(Clone, Copy)]

@@ -1,10 +1,10 @@
 // Words by themselves, and why a byte is refused.
-ghost use Rattle.std.specs.Prelude.{◌≡◌, ◌-◌, true, false, ◌≢◌};◌≡◌, ◌-◌, true, false, ◌≢◌};
-ghost use Rattle.grammar.specs.Bytes.{class, word_byte};class, word_byte};
-ghost use Rattle.grammar.specs.Limits.{max_depth};max_depth};
-ghost use Rattle.grammar.specs.Reader.{reason};reason};
-ghost use Rattle.grammar.specs.Words.{not_a_word};not_a_word};
-ghost use Rattle.words.specs.Names.{judged};judged};
+ghost use Rattle.std.specs.Prelude.{◌≡◌, ◌-◌, true, false, ◌≢◌};
+ghost use Rattle.grammar.specs.Bytes.{class, word_byte};
+ghost use Rattle.grammar.specs.Limits.{max_depth};
+ghost use Rattle.grammar.specs.Reader.{reason};
+ghost use Rattle.grammar.specs.Words.{not_a_word};
+ghost use Rattle.words.specs.Names.{judged};
 
 use crate::limits::{MAX_DEPTH, MAX_WORD};
 use classes::class_of;
