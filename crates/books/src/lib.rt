@@ -1,4 +1,6 @@
 // Rule books: what a subject may add, give and create, and who counts as an owner.
+#![tactic(auto)]
+
 ghost use Rattle.std.specs.Prelude.{◌≡◌};
 ghost use Rattle.std.specs.Option.{option_map};
 ghost use Rattle.books.specs.Meaning.{Meaning, Lawful};

@@ -1,4 +1,6 @@
 // The class of a byte, read from a table.
+#![tactic(auto)]
+
 ghost use Rattle.std.specs.Prelude.{◌≡◌};
 ghost use Rattle.grammar.specs.Bytes.{class};
 ghost use Rattle.classes.specs.Sorts.{sort};

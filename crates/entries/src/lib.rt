@@ -1,4 +1,6 @@
 // Named entries: the kinds with their limits, and the one lookup that serves them all.
+#![tactic(auto)]
+
 ghost use Rattle.std.specs.Prelude.{◌≡◌, not, map, length, nat_lt};
 ghost use Rattle.entries.specs.Lookup.{place_of, LookupFinds};
 

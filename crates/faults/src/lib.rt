@@ -1,4 +1,6 @@
 // Faults of texts, and the line that a fault names.
+#![tactic(auto)]
+
 ghost use Rattle.std.specs.Prelude.{◌≡◌, ◌≤◌, length};
 ghost use Rattle.rights.specs.Refusals.{refusal_number};
 ghost use Rattle.faults.specs.Layers.{layer_of};

@@ -1,4 +1,6 @@
 // The copy-flag book, a rule book that is computed from a few settings and has no rows.
+#![tactic(auto)]
+
 ghost use Rattle.flags.specs.Flags.{FlagsMean};
 
 pub mod book;

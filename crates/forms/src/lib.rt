@@ -1,4 +1,6 @@
 // The forms layer: a list of items is read as a form of a scheme text, or refused as none.
+#![tactic(auto)]
+
 pub mod form;
 pub mod read;
 

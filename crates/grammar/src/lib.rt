@@ -1,4 +1,6 @@
 // The grammar of texts, proved over definitions: which bytes are a line, and which byte of any other text is refused.
+#![tactic(auto)]
+
 ghost use Rattle.grammar.specs.Claims.{GoodLinesRead, OnlyGoodLines, RefusedAtFirst, RefusalsSettle};
 ghost use Rattle.grammar.specs.Entries.{ItemsAreLists};
 ghost use Rattle.grammar.specs.Texts.{TextsSplit, OneSplit};

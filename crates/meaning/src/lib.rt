@@ -1,5 +1,7 @@
 // What a scheme text means, proved over definitions: which forms it may have, what each line declares, and what the book
 // that it comes to permits.
+#![tactic(auto)]
+
 ghost use Rattle.meaning.specs.Forms.{FormsRead};
 ghost use Rattle.meaning.specs.Means.{TextsMean};
 

@@ -1,4 +1,6 @@
 // The table of rights and its monitor.
+#![tactic(auto)]
+
 pub mod cells;
 pub mod column;
 pub mod draft;

@@ -1,4 +1,6 @@
 // The safety questions, answered by a search.
+#![tactic(auto)]
+
 mod ask;
 mod call;
 mod search;

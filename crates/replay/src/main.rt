@@ -35,6 +35,8 @@
 // A refused call answers `refused` and the number of the refusal. A line that names no call, or a call for which the draft,
 // the book or the table is missing, answers `unreadable`, and nothing else happens. An empty line and a line that begins
 // with `#` are printed as they are. Bytes that are no text are read and printed as U+FFFD.
+#![tactic(auto)]
+
 mod answer;
 mod command;
 mod fault;

@@ -1,4 +1,6 @@
 // Sets of rights, the checked numbers of rights and types, the limits, and the refusals.
+#![tactic(auto)]
+
 ghost use Rattle.rights.specs.Sets.{SetLaws};
 
 pub mod limits;

@@ -1,4 +1,6 @@
 // The row book: rules as rows, declared one by one in a draft, then fixed.
+#![tactic(auto)]
+
 ghost use Rattle.rows.specs.Rules.{RulesMean};
 
 pub mod book;

@@ -1,4 +1,6 @@
 // The safety questions: what is asked, what is answered, and the run rule and the law in specs/.
+#![tactic(auto)]
+
 pub mod question;
 
 ghost use Rattle.safety.specs.Laws.{QuestionsJudged, RuleFollowed};

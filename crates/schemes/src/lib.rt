@@ -1,4 +1,6 @@
 // Schemes with names: a draft that takes declarations, fixed into a scheme that answers.
+#![tactic(auto)]
+
 pub mod declare;
 pub mod draft;
 pub mod enter;

@@ -15,6 +15,8 @@
 //     end
 //
 // HELD is no right, each right alone, each right with the next one, and all rights; names with commas between them, or `-`.
+#![tactic(auto)]
+
 mod frame;
 mod probe;
 mod show;

@@ -1,4 +1,6 @@
 // The reader of texts: one line at a time, its words by place.
+#![tactic(auto)]
+
 pub mod limits;
 pub mod parts;
 mod reader;
