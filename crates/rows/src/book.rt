@@ -1,16 +1,17 @@
 // The fixed book: rows that answer questions.
-ghost use Rattle.std.specs.Prelude.{◌≡◌, Some, None};
+ghost use Rattle.std.specs.Prelude.{◌≡◌, Some, None, IfOk};
 ghost use Rattle.std.specs.Option.{option_map};
 ghost use Rattle.rows.specs.Rules.{same_receiver, applies, gathered, created, is_pair, book_meaning, empty_book};
 ghost use Rattle.rows.specs.Views.{rule_of, rules_of, creation_of, creations_of};
 ghost use Rattle.rows.specs.Books.{book_of};
 ghost use Rattle.rows.specs.Gathering.{book_lawful};
 
+use crate::draft::Draft;
 use crate::row::{Creation, Row};
 use crate::table::RowTable;
 use books::RuleBook;
 use rights::{ObjectType, Right, RightSet, SubjectType};
-use std::alloc::Global;
+use std::alloc::{AllocError, Global};
 
 // A book of rows. It takes no declaration any more: for another book, start another draft.
 #[derive(Drop)]
@@ -19,17 +20,21 @@ pub struct RowBook {
 }
 
 impl RowBook {
-    // The book without a row: it permits nothing. It takes no memory.
-    pub fn empty(heap: Global) -> RowBook
-        ensures { book_of result.table ≡ empty_book }
+    // The book without a row: it permits nothing.
+    pub fn empty(heap: Global) -> Result<RowBook, AllocError>
+        ensures { IfOk result (λ b. book_of b.table ≡ empty_book) }
     {
-        RowBook {
-            table: RowTable {
-                rows: Vec::new(heap),
-                creations: Vec::new(heap),
-                owner: None,
-            },
-        }
+        Ok(Draft::new(heap)?.fix())
+    }
+
+    // Takes every row away, and what it marks as an owner: the book then permits nothing. The room stays.
+    pub fn clear(&mut self)
+        ensures { book_of self.new.table ≡ empty_book }
+    {
+        let table = &mut self.table;
+        table.rows.clear();
+        table.creations.clear();
+        table.owner = None;
     }
 }
 

@@ -5,7 +5,7 @@ use Rattle.words.proofs.reader.line.Goals as goal
 
 pub returns : goal.returns
 returns c = record {
-  reads = c.read-line.ensures;
-  means = MatchResult-weaker c.read-line.result c.read-line.ensures
+  reads = c.read_line.ensures;
+  means = MatchResult-weaker c.read_line.result c.read_line.ensures
       (λ p h. line_stands c.args.text.now (shape c.args.text.now p.0) p.1 h) (λ e h. line_fails c.args.text.now e h);
 }

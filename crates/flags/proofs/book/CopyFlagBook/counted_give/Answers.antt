@@ -10,6 +10,6 @@ loop-k-preserved c =
     let next = counted_next c.loop-k.k c.args.held.bits (c.loop-k.k + 1 - 1) (omega arith) (omega arith) in cc
 
 -- the last turn
-pub returns·2 : goal.returns·2
-returns·2 c =
+pub returns-2 : goal.returns-2
+returns-2 c =
     let next = counted_next c.loop-k.k c.args.held.bits c.args.self.now.settings.flags (omega arith) (omega arith) in cc

@@ -5,13 +5,13 @@ use Rattle.monitor.specs.Grids.{state_from, state_of}
 use Rattle.monitor.proofs.Memory.{state_object, full_object, blank_object, new_stands}
 use Rattle.monitor.proofs.grid.Grid.add_object.Goals as goal
 
-pub invariant-of-self : goal.invariant-of-self
-invariant-of-self c =
+pub invariant_of-self : goal.invariant_of-self
+invariant_of-self c =
     let g = c.args.self.now in
     let cs = vec_items g.columns in
-    let items = c.push-reserved.ensures.items in
-    let few : vec_len c.push-reserved.new.self ≤ 64 = omega (arith, c.push-reserved.ensures.len, c.requires) in
-    let room : 64 ≤ vec_capacity c.push-reserved.new.self = omega (arith, c.push-reserved.ensures.capacity, g.object_room) in (
+    let items = c.push_reserved.ensures.items in
+    let few : vec_len c.push_reserved.new.self ≤ 64 = omega (arith, c.push_reserved.ensures.len, c.requires) in
+    let room : 64 ≤ vec_capacity c.push_reserved.new.self = omega (arith, c.push_reserved.ensures.capacity, g.object_room) in (
       g.few_subjects,
       (
         g.subject_room,
@@ -34,7 +34,7 @@ returns c =
     let ts = vec_items g.subjects in
     let few : length ts ≤ 64 = omega (arith, g.few_subjects, g.subjects.ok.0) in
     let state
-    = ap (state_from ts) c.push-reserved.ensures.items
+    = ap (state_from ts) c.push_reserved.ensures.items
     ∙ state_object (vec_items g.columns) c.args.kind c.empty-cells.result c.empty-cells.ensures ts few in
     record {
       state = state;

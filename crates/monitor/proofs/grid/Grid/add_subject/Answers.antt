@@ -10,5 +10,5 @@ returns c =
     let ts = vec_items g.subjects in
     let cs = vec_items g.columns in
     let few : length ts < 64 = omega (arith, c.requires, g.subjects.ok.0) in
-    ap (λ l. state_from l cs) c.push-reserved.ensures.items
+    ap (λ l. state_from l cs) c.push_reserved.ensures.items
     ∙ state_subject ts c.args.kind cs few g.full (subst (λ n. Blank n cs) g.subjects.ok.0 g.blank)

@@ -5,28 +5,28 @@ use Rattle.monitor.specs.Columns.{no_column, Blank}
 use Rattle.monitor.proofs.Memory.{state_put, full_put, blank_put, in_subjects, in_columns}
 use Rattle.monitor.proofs.grid.Grid.put.Goals as goal
 
-pub index-mut-requires : goal.index-mut-requires
-index-mut-requires c = in_columns c.args.self.now c.args.s c.args.o c.requires
+pub index_mut-requires : goal.index_mut-requires
+index_mut-requires c = in_columns c.args.self.now c.args.s c.args.o c.requires
 
-pub offset-bounds-index-mut-s : goal.offset-bounds-index-mut-s
-offset-bounds-index-mut-s c =
+pub offset_bounds-index_mut-s : goal.offset_bounds-index_mut-s
+offset_bounds-index_mut-s c =
     let l = in_subjects c.args.self.now c.args.s c.args.o c.requires in
     search rules
 
-pub bounds-index-mut-s : goal.bounds-index-mut-s
-bounds-index-mut-s c =
+pub bounds-index_mut-s : goal.bounds-index_mut-s
+bounds-index_mut-s c =
     let l = in_subjects c.args.self.now c.args.s c.args.o c.requires in
     let few = c.args.self.now.few_subjects in
     omega arith
 
-pub invariant-of-self : goal.invariant-of-self
-invariant-of-self c =
+pub invariant_of-self : goal.invariant_of-self
+invariant_of-self c =
     let g = c.args.self.now in
     let cs = vec_items g.columns in
-    let col = c.index-mut.result.now in
+    let col = c.index_mut.result.now in
     let ls = in_subjects g c.args.s c.args.o c.requires in
     let lo : c.args.o < length cs = omega (arith, in_columns g c.args.s c.args.o c.requires, g.columns.ok.0) in
-    let is = get_or_read cs c.args.o col lo c.index-mut.ensures.value no_column in (
+    let is = get_or_read cs c.args.o col lo c.index_mut.ensures.value no_column in (
       g.few_subjects,
       (
         g.subject_room,
@@ -47,7 +47,7 @@ pub returns : goal.returns
 returns c =
     let g = c.args.self.now in
     let cs = vec_items g.columns in
-    let col = c.index-mut.result.now in
+    let col = c.index_mut.result.now in
     let ls : c.args.s < length (vec_items g.subjects) = omega (arith, in_subjects g c.args.s c.args.o c.requires, g.subjects.ok.0) in
     let lo : c.args.o < length cs = omega (arith, in_columns g c.args.s c.args.o c.requires, g.columns.ok.0) in
-    state_put (vec_items g.subjects) cs c.args.s c.args.o c.args.rights col ls lo (get_or_read cs c.args.o col lo c.index-mut.ensures.value no_column)
+    state_put (vec_items g.subjects) cs c.args.s c.args.o c.args.rights col ls lo (get_or_read cs c.args.o col lo c.index_mut.ensures.value no_column)

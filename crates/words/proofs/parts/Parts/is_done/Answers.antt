@@ -4,6 +4,6 @@ use Rattle.words.proofs.parts.Parts.is_done.Goals as goal
 
 pub returns : goal.returns
 returns c = λ text.
-    c.is-empty.ensures
-    ∙ ap (λ l. eqb (length l) 0) c.as-slice.ensures.value
+    c.is_empty.ensures
+    ∙ ap (λ l. eqb (length l) 0) c.as_slice.ensures.value
     ∙ done_by_length (vec_items c.args.self.now.rest) text

@@ -9,7 +9,7 @@ pub loop-before-preserved : goal.loop-before-preserved
 loop-before-preserved c =
     one_more_taken c.args.items c.loop-before.items c.in-Some.before c.in-Some.last
     (vec_items c.loop-before.rest) (vec_items c.push.new.self)
-    c.in-Some.ensures c.in-ok-push.ensures.items c.loop-before.invariant
+    c.in-Some.ensures c.in_ok-push.ensures.items c.loop-before.invariant
 
 pub returns : goal.returns
-returns c = all_taken c.args.items c.loop-before.items (vec_items c.loop-before.rest) c.in-default.ensures c.loop-before.invariant
+returns c = all_taken c.args.items c.loop-before.items (vec_items c.loop-before.rest) c.in_default.ensures c.loop-before.invariant
