@@ -11,22 +11,15 @@ invariant_of-self c =
     let cs = vec_items g.columns in
     let items = c.push_reserved.ensures.items in
     let few : vec_len c.push_reserved.new.self ≤ 64 = omega (arith, c.push_reserved.ensures.len, c.requires) in
-    let room : 64 ≤ vec_capacity c.push_reserved.new.self = omega (arith, c.push_reserved.ensures.capacity, g.object_room) in (
-      g.few_subjects,
-      (
-        g.subject_room,
-        (
-          few,
-          (
-            room,
-            (
-              subst Full (sym items) (full_object cs c.args.kind c.empty-cells.result c.empty-cells.ensures g.full),
-              (subst (Blank (vec_len g.subjects)) (sym items) (blank_object cs c.args.kind c.empty-cells.result c.empty-cells.ensures (vec_len g.subjects) g.blank), tt),
-            ),
-          ),
-        ),
-      ),
-    )
+    let room : 64 ≤ vec_capacity c.push_reserved.new.self = omega (arith, c.push_reserved.ensures.capacity, g.object_room) in
+    record {
+      few_subjects = g.few_subjects;
+      subject_room = g.subject_room;
+      few_objects = few;
+      object_room = room;
+      full = subst Full (sym items) (full_object cs c.args.kind c.empty-cells.result c.empty-cells.ensures g.full);
+      blank = subst (Blank (vec_len g.subjects)) (sym items) (blank_object cs c.args.kind c.empty-cells.result c.empty-cells.ensures (vec_len g.subjects) g.blank);
+    }
 
 pub returns : goal.returns
 returns c =

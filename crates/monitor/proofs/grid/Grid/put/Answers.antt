@@ -26,22 +26,15 @@ invariant_of-self c =
     let col = c.index_mut.result.now in
     let ls = in_subjects g c.args.s c.args.o c.requires in
     let lo : c.args.o < length cs = omega (arith, in_columns g c.args.s c.args.o c.requires, g.columns.ok.0) in
-    let is = get_or_read cs c.args.o col lo c.index_mut.ensures.value no_column in (
-      g.few_subjects,
-      (
-        g.subject_room,
-        (
-          g.few_objects,
-          (
-            g.object_room,
-            (
-              full_put cs (vec_len g.subjects) c.args.s c.args.o c.args.rights col ls lo is g.full,
-              (blank_put cs (vec_len g.subjects) c.args.s c.args.o c.args.rights col ls lo is g.blank, tt),
-            ),
-          ),
-        ),
-      ),
-    )
+    let is = get_or_read cs c.args.o col lo c.index_mut.ensures.value no_column in
+    record {
+      few_subjects = g.few_subjects;
+      subject_room = g.subject_room;
+      few_objects = g.few_objects;
+      object_room = g.object_room;
+      full = full_put cs (vec_len g.subjects) c.args.s c.args.o c.args.rights col ls lo is g.full;
+      blank = blank_put cs (vec_len g.subjects) c.args.s c.args.o c.args.rights col ls lo is g.blank;
+    }
 
 pub returns : goal.returns
 returns c =
