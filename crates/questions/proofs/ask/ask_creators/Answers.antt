@@ -15,10 +15,10 @@ returns-in-Some g c =
     let ts = types_of c.args.types.now in
     let t = c.args.kind.number in
     let u = c.loop-creator.creator in
-    let moves = take c.in-Some.count c.from-creator.new.moves in
+    let moves = take c.in-Some.count c.from_creator.new.moves in
     let lu : u < length ts = omega (arith, length-map c.args.types.now (λ x. x.number)) in
     let first = first_is (length ts) (λ d. from_create 32 m ts c.args.object d c.args.subject t c.args.asked.number (m.creation (get_or ts d 0) t)) u (Create u t ∷ moves) lu (sym c.in-Some.ensures.run) c.loop-creator.invariant.0 in
-    c.tell-created.ensures
+    c.tell_created.ensures
     ∙ ap (λ l. told l (Some (Create u c.number.result ∷ moves))) c.loop-creator.invariant.2
     ∙ ap (λ k. told c.args.run.now (Some (Create u k ∷ moves))) c.number.ensures
     ∙ ap (told c.args.run.now) (sym first)

@@ -16,18 +16,18 @@ pub returns-then-subject-types : goal.returns-then-subject-types
 returns-then-subject-types g c =
     let S = state_of c.args.table.now.grid in
     let q = Can c.args.subject c.args.object c.args.right in
-    let out = no_subject S c.subject-types-types.result.now c.subject-types-types.ensures.value c.args.subject c.if-subject-types.true in
+    let out = no_subject S c.subject_types-types.result.now c.subject_types-types.ensures.value c.args.subject c.if-subject-types.true in
     refused_range 32 (g.B.RuleBook.meaning c.args.book.now) S q c.args.run.now
     (and_left (in_table S c.args.subject c.args.object) (ltb c.args.right 32) (and_left (is_subject S c.args.subject) (is_object S c.args.object) out))
 
-pub returns-then-run-lt-RUN-PLACES : goal.returns-then-run-lt-RUN-PLACES
-returns-then-run-lt-RUN-PLACES g c =
+pub returns-then-run-lt-RUN_PLACES : goal.returns-then-run-lt-RUN_PLACES
+returns-then-run-lt-RUN_PLACES g c =
     let S = state_of c.args.table.now.grid in
-    let types = c.subject-types-types.result.now in
-    let number = checked_ok 32 c.args.right c.in-ok-asked.asked.number c.in-ok-asked.ensures in
-    let stands = demand_ok (is_object S c.args.object) OutOfRange (Ok (object S c.args.object)) (object_of (length S.subjects) c.in-ok-column.column) c.in-ok-column.ensures.value in
+    let types = c.subject_types-types.result.now in
+    let number = checked_ok 32 c.args.right c.in_ok-asked.asked.number c.in_ok-asked.ensures in
+    let stands = demand_ok (is_object S c.args.object) OutOfRange (Ok (object S c.args.object)) (object_of (length S.subjects) c.in_ok-column.column) c.in_ok-column.ensures.value in
     refused_short 32 (g.B.RuleBook.meaning c.args.book.now) S (Can c.args.subject c.args.object c.args.right) c.args.run.now
-    (old_range S types c.subject-types-types.ensures.value c.args.subject c.args.object c.args.right c.if-subject-types.false stands.0 number.1) c.if-run-lt-RUN-PLACES.true
+    (old_range S types c.subject_types-types.ensures.value c.args.subject c.args.object c.args.right c.if-subject-types.false stands.0 number.1) c.if-run-lt-RUN_PLACES.true
 
 pub returns : goal.returns
 returns g c =
@@ -35,15 +35,15 @@ returns g c =
     let S = state_of c.args.table.now.grid in
     let s = c.args.subject in
     let o = c.args.object in
-    let types = c.subject-types-types.result.now in
-    let same = c.subject-types-types.ensures.value in
-    let column = c.in-ok-column.column in
-    let number = checked_ok 32 c.args.right c.in-ok-asked.asked.number c.in-ok-asked.ensures in
-    let stands = demand_ok (is_object S o) OutOfRange (Ok (object S o)) (object_of (length S.subjects) column) c.in-ok-column.ensures.value in
+    let types = c.subject_types-types.result.now in
+    let same = c.subject_types-types.ensures.value in
+    let column = c.in_ok-column.column in
+    let number = checked_ok 32 c.args.right c.in_ok-asked.asked.number c.in_ok-asked.ensures in
+    let stands = demand_ok (is_object S o) OutOfRange (Ok (object S o)) (object_of (length S.subjects) column) c.in_ok-column.ensures.value in
     let read : object_of (length S.subjects) column ≡ object S o = (let e = stands.1 in cc) in
     let is = ap (λ k. object_of k column) (subjects_length S types same) ∙ read in
-    let told_of = c.ask-column.ensures
+    let told_of = c.ask_column.ensures
     ∙ ap (λ r. told c.args.run.now (as_steps o (find 32 m (types_of types) column.kind.number s r 2048 (object_of (length types) column).cells))) number.0
     ∙ ap (told c.args.run.now) (old_shown 32 m S s o c.args.right (types_of types) same (object_of (length types) column) is) in
     answered 32 m S (Can s o c.args.right) c.args.run.now
-    (old_range S types same s o c.args.right c.if-subject-types.false stands.0 number.1) c.if-run-lt-RUN-PLACES.false c.ask-column.new.run c.ask-column.result told_of
+    (old_range S types same s o c.args.right c.if-subject-types.false stands.0 number.1) c.if-run-lt-RUN_PLACES.false c.ask_column.new.run c.ask_column.result told_of

@@ -18,14 +18,14 @@ returns g c =
     let s = c.args.subject in
     let r = c.args.asked.number in
     let o = c.args.object in
-    let rights = c.in-ok-rights.rights.bits in
-    let may = ap (λ x. m.creation x t) (sym c.type-at.ensures) ∙ sym c.in-ok-rights.ensures in
-    let cells = c.fresh-column-column.ensures.cells n c.requires.creates c.requires.few ∙ ap (λ k. fresh k u rights) (sym (length-map c.args.types.now (λ x. x.number))) in
+    let rights = c.in_ok-rights.rights.bits in
+    let may = ap (λ x. m.creation x t) (sym c.type_at.ensures) ∙ sym c.in_ok-rights.ensures in
+    let cells = c.fresh_column-column.ensures.cells n c.requires.creates c.requires.few ∙ ap (λ k. fresh k u rights) (sym (length-map c.args.types.now (λ x. x.number))) in
     let found
-    = c.find-in.ensures.run
-    ∙ ap (λ k. as_steps o (find 32 m ts k.number s r 2048 (object_of n c.fresh-column-column.result).cells)) c.fresh-column-column.ensures.kind
+    = c.find_in.ensures.run
+    ∙ ap (λ k. as_steps o (find 32 m ts k.number s r 2048 (object_of n c.fresh_column-column.result).cells)) c.fresh_column-column.ensures.kind
     ∙ ap (λ l. as_steps o (find 32 m ts t s r 2048 l)) cells in
     record {
-      run = before_mapped (Create u t) (λ k. take k c.find-in.new.moves) c.find-in.result ∙ ap (before (Create u t)) found ∙ ap (from_create 32 m ts o u s t r) (sym may);
-      few = c.find-in.ensures.few;
+      run = before_mapped (Create u t) (λ k. take k c.find_in.new.moves) c.find_in.result ∙ ap (before (Create u t)) found ∙ ap (from_create 32 m ts o u s t r) (sym may);
+      few = c.find_in.ensures.few;
     }

@@ -16,7 +16,7 @@ loop-right-preserved g c =
     let cs = cells_of c.args.cells.now in
     let d = c.loop-receiver.receiver in
     let r = c.loop-right.right in
-    let idle = ap (λ a. has a r && not (has (held cs d) r)) (sym c.may-add-own.ensures) ∙ sym c.if-is-new.ensures in
+    let idle = ap (λ a. has a r && not (has (held cs d) r)) (sym c.may_add-own.ensures) ∙ sym c.if-is_new.ensures in
     (c.loop-right.invariant.0, clear_more (own 32 m ts t cs d) r c.loop-right.invariant.1 (try_no 32 m ts t cs (Add d r) idle))
 
 pub loop-giver-init : goal.loop-giver-init
@@ -50,8 +50,8 @@ loop-receiver-preserved g c =
     let none = no_gifts 32 m ts t cs d c.loop-giver.invariant.1 (clear_to (gifts 32 m ts t cs d) c.loop-giver.giver (length ts) all c.loop-giver.invariant.2) in
     clear_more _ d c.loop-giver.invariant.0 none
 
-pub returns-then-is-new : goal.returns-then-is-new
-returns-then-is-new g c =
+pub returns-then-is_new : goal.returns-then-is_new
+returns-then-is_new g c =
     let m = g.B.RuleBook.meaning c.args.book.now in
     let ts = types_of c.args.types.now in
     let t = c.args.kind.number in
@@ -59,11 +59,11 @@ returns-then-is-new g c =
     let d = c.loop-receiver.receiver in
     let r = c.loop-right.right in
     let ld : d < length ts = omega (arith, length-map c.args.types.now (λ x. x.number)) in
-    let adds = ap (λ a. has a r && not (has (held cs d) r)) (sym c.may-add-own.ensures) ∙ sym c.if-is-new.ensures in
+    let adds = ap (λ a. has a r && not (has (held cs d) r)) (sym c.may_add-own.ensures) ∙ sym c.if-is_new.ensures in
     sym (found_own 32 m ts t cs d r ld c.loop-right.invariant.0 c.loop-right-test.true c.loop-right.invariant.1 adds)
 
-pub returns-then-is-new-2 : goal.returns-then-is-new-2
-returns-then-is-new-2 g c =
+pub returns-then-is_new-2 : goal.returns-then-is_new-2
+returns-then-is_new-2 g c =
     let m = g.B.RuleBook.meaning c.args.book.now in
     let ts = types_of c.args.types.now in
     let t = c.args.kind.number in
@@ -75,7 +75,7 @@ returns-then-is-new-2 g c =
     let ls : s < length ts = omega (arith, length-map c.args.types.now (λ x. x.number)) in
     let adds
     = ap (λ b. not b && has (allowance m ts t cs (Give s d r)) r && not (has (held cs d) r)) (ne_eqb s d c.if-giver-receiver.true)
-    ∙ ap (λ a. has a r && not (has (held cs d) r)) (sym c.may-give-gift.ensures) ∙ sym c.if-is-new-2.ensures in
+    ∙ ap (λ a. has a r && not (has (held cs d) r)) (sym c.may_give-gift.ensures) ∙ sym c.if-is_new-2.ensures in
     sym (found_gift 32 m ts t cs d s r ld c.loop-given.invariant.0 c.loop-given.invariant.1 ls c.loop-given.invariant.2 c.loop-given-test.true c.loop-given.invariant.3 adds)
 
 pub returns-after-loop-receiver : goal.returns-after-loop-receiver
