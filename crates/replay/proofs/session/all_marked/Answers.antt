@@ -7,7 +7,7 @@ use Rattle.replay.proofs.session.all_marked.Goals as goal
 
 pub loop-step-preserved : goal.loop-step-preserved
 loop-step-preserved c =
-    All-more (λ s. s ≡ Create 7 7) c.args.places.now c.loop-step.step-index (Create 0 0) c.loop-step-test.true c.loop-step.invariant (c.is-marker.ensures.yes c.if-not-is-marker.false)
+    All-more (λ s. s ≡ Create 7 7) c.args.places.now c.loop-step.step-index (Create 0 0) c.loop-step-test.true c.loop-step.invariant (c.is_marker.ensures.yes c.if-not-is_marker.false)
 
 -- the loop went through all places
 pub returns : goal.returns

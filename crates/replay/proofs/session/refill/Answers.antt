@@ -8,4 +8,4 @@ use Rattle.replay.proofs.session.refill.Goals as goal
 pub returns : goal.returns
 returns c =
     let places = c.args.places in
-    rw (c.in-ok-resize.ensures.items, c.clear.ensures.items, c.clear.ensures.len, sub-zero places, take_all {A = Step} places [] (omega arith)) refl
+    rw (c.in_ok-resize.ensures.items, c.clear.ensures.items, c.clear.ensures.len, sub-zero places, take_all {A = Step} places [] (omega arith)) refl

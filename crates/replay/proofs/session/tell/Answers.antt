@@ -5,5 +5,5 @@ use Rattle.replay.proofs.session.tell.Goals as goal
 pub returns : goal.returns
 returns c = record {
   reply = refl;
-  run = c.in-ok-to-vec.ensures.items-if-clones-equal (λ x y e. e) ∙ search (rules, c.split-at.ensures.front);
+  run = c.in_ok-to_vec.ensures.items_if_clones_equal (λ x y e. e) ∙ search (rules, c.split_at.ensures.front);
 }
