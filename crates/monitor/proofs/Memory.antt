@@ -7,7 +7,7 @@ use Rattle.rights.specs.declared.set.RightSet.{RightSet}
 use Rattle.rights.specs.declared.subjects.SubjectType.{SubjectType}
 use Rattle.rights.specs.declared.objects.ObjectType.{ObjectType}
 use Rattle.monitor.specs.declared.column.Column.{Column}
-use Rattle.monitor.specs.States.{Object, State, no_object, object, is_subject, is_object, in_table, with_subject, with_object, with_cell}
+use Rattle.monitor.specs.States.{State, no_object, object, is_subject, is_object, in_table, with_subject, with_object, with_cell}
 use Rattle.monitor.specs.Columns.{no_rights, no_column, bits_at, Full, Blank, object_of}
 use Rattle.monitor.specs.Grids.{state_from, state_of}
 use Rattle.monitor.specs.Places.{place_in}

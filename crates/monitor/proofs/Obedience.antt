@@ -1,5 +1,5 @@
 -- The machine obeys its laws, step by step.
-use Rattle.std.proofs.Common.{◌≡◌, ℕ, ◌+◌, ◌<◌, ◌≤◌, Bool, true, false, not, ◌&&◌, T, eqb, ltb, ◌≢◌, List, [], ◌∷◌, ◌++◌, length, get_or, set, replicate, is_ok, Some, None, Ok, Err, Option, Result, sym, refl, ap, ◌∙◌, subst, inl, inr, arith, eqb→eq, ltb→lt}
+use Rattle.std.proofs.Common.{◌≡◌, ℕ, ◌+◌, ◌<◌, not, ◌&&◌, T, eqb, ltb, ◌≢◌, [], ◌∷◌, length, get_or, set, replicate, is_ok, Some, None, Ok, Option, Result, sym, refl, ap, ◌∙◌, subst, inl, inr, arith, ltb→lt}
 use Rattle.std.proofs.lemmas.List.{get_or-set_same, get_or-set_other, get_or_append_left, get_or_push, get_or_past, get_or-replicate, length-set, length_push, length-replicate}
 use Rattle.std.proofs.lemmas.Bool.{cases_eq, cases_lt, lt-ltb, ne_eqb, eq-eqb}
 use Rattle.rights.specs.Sets.{nothing, has, add, remove}
@@ -13,7 +13,7 @@ use Rattle.books.specs.Meaning.{Meaning}
 use Rattle.monitor.specs.declared.step.Step.{Step}
 use Rattle.monitor.specs.declared.step.Step.TheVariants.{Create, Transform, Grant, Revoke}
 use Rattle.monitor.specs.declared.step.Done.{Done}
-use Rattle.monitor.specs.declared.step.Done.TheVariants.{Made, Added, Taken}
+use Rattle.monitor.specs.declared.step.Done.TheVariants.{Made, Taken}
 use Rattle.monitor.specs.States.{Object, State, no_object, object, type_of, cell, is_subject, is_object, in_table, with_object, with_cell}
 use Rattle.monitor.specs.Machine.{join, make, owns, outcome, perform}
 use Rattle.monitor.specs.Laws.{Permitted, SameBut, Joins, Leaves, AddsObject, Effect, Obeys}

@@ -1,5 +1,5 @@
 -- What an accepted step answers, case by case.
-use Rattle.std.specs.Prelude.{ℕ, Bool, true, false, cond, Some, None, Option}
+use Rattle.std.specs.Prelude.{ℕ, cond, Some, None, Option}
 use Rattle.monitor.specs.declared.step.Done.{Done}
 use Rattle.monitor.specs.declared.step.Done.TheVariants.{Made, Added, Taken}
 

@@ -4,7 +4,6 @@ use Rattle.std.proofs.Common.{lit<}
 use Rattle.rights.specs.Limits.{max_subjects}
 use Rattle.rights.specs.Sets.{nothing}
 use Rattle.rights.specs.declared.set.RightSet.{RightSet}
-use Rattle.rights.specs.declared.objects.ObjectType.{ObjectType}
 use Rattle.monitor.specs.declared.column.Column.{Column}
 use Rattle.monitor.specs.States.{Object}
 

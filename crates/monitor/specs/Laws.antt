@@ -1,5 +1,5 @@
 -- What the monitor does, in plain terms: when it accepts a step, and what an accepted step changes.
-use Rattle.std.specs.Prelude.{◌≡◌, ℕ, ◌+◌, ◌<◌, Bool, not, ◌&&◌, ◌||◌, T, length, is_ok, Some, Ok, Err, Result, ◌==◌, ◌≢◌}
+use Rattle.std.specs.Prelude.{◌≡◌, ℕ, ◌+◌, ◌<◌, not, ◌&&◌, ◌||◌, T, length, is_ok, Some, Ok, Err, Result, ◌==◌, ◌≢◌}
 use Rattle.rights.specs.Limits.{max_object_types, max_objects}
 use Rattle.rights.specs.Sets.{nothing, has}
 use Rattle.rights.specs.declared.refusal.Refusal.{Refusal}

@@ -1,5 +1,5 @@
 -- The table of rights.
-use Rattle.std.specs.Prelude.{ℕ, Bool, ◌&&◌, List, [], ◌∷◌, ◌++◌, map, length, set, replicate, nat_lt, slice_index, slice_index_or, slice_set}
+use Rattle.std.specs.Prelude.{ℕ, Bool, ◌&&◌, List, [], ◌∷◌, ◌++◌, map, length, replicate, nat_lt, slice_index, slice_index_or, slice_set}
 use Rattle.rights.specs.Sets.{nothing}
 
 -- An object: its type, and a cell for each subject, which is the set of rights that this subject holds for it.

@@ -1,5 +1,5 @@
 -- Worked examples, each proved by computation on the definitions that the contracts cite.
-use Rattle.std.specs.Prelude.{◌≡◌, List, [], ◌∷◌, replicate, Some, None, Ok, Err}
+use Rattle.std.specs.Prelude.{◌≡◌, List, [], ◌∷◌, replicate, None, Err}
 use Rattle.rights.specs.Limits.{max_rights}
 use Rattle.rights.specs.Refusals.{refusal_number}
 use Rattle.rights.specs.Sets.{nothing}
@@ -9,7 +9,7 @@ use Rattle.rows.specs.Rules.{book_meaning}
 use Rattle.rows.specs.Drafts.{declare_row}
 use Rattle.flags.specs.Flags.{flags_meaning}
 use Rattle.monitor.specs.declared.step.Step.{Step}
-use Rattle.monitor.specs.declared.step.Step.TheVariants.{Create, Transform, Grant, Revoke}
+use Rattle.monitor.specs.declared.step.Step.TheVariants.{Create, Transform, Grant}
 use Rattle.safety.specs.declared.question.Question.{Question}
 use Rattle.safety.specs.declared.question.Question.TheVariants.{Can, CanNew}
 use Rattle.safety.specs.declared.question.Reply.{Reply}

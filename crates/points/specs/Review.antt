@@ -1,5 +1,5 @@
 -- The paper review, as its declarations make it.
-use Rattle.std.specs.Prelude.{ℕ, true, false, List, [], ◌∷◌, replicate, Some, None}
+use Rattle.std.specs.Prelude.{ℕ, true, false, [], ◌∷◌, replicate, Some, None}
 use Rattle.rights.specs.Limits.{max_rights}
 use Rattle.monitor.specs.States.{State, empty_table}
 use Rattle.monitor.specs.Machine.{build_subject, build_object, build_holding}

@@ -1,10 +1,9 @@
 -- A question's tests and its answer, from what the program has tested and found.
-use Rattle.std.proofs.Common.{◌≡◌, ℕ, ◌<◌, ◌≤◌, Bool, true, false, cond, ◌&&◌, ltb, leb, List, map, length, get_or, Some, None, Ok, Err, Option, Result, sym, refl, ap, ◌∙◌, arith}
+use Rattle.std.proofs.Common.{◌≡◌, ℕ, ◌<◌, ◌≤◌, true, false, ◌&&◌, ltb, leb, List, length, Some, None, Ok, Err, Option, sym, refl, ap, ◌∙◌, arith}
 use Rattle.std.proofs.lemmas.List.{length-map}
-use Rattle.std.proofs.lemmas.Bool.{and_from, and_left, and_right, lt-ltb, le-ltb, le-leb, lt-leb, cond-true, cond-false}
+use Rattle.std.proofs.lemmas.Bool.{and_from, lt-ltb, le-ltb, le-leb, lt-leb, cond-true, cond-false}
 use Rattle.rights.specs.Firsts.{first}
-use Rattle.rights.specs.Refusals.{settle, demand}
-use Rattle.rights.specs.declared.refusal.Refusal.{Refusal}
+use Rattle.rights.specs.Refusals.{settle}
 use Rattle.rights.specs.declared.refusal.Refusal.TheVariants.{OutOfRange, TooShort}
 use Rattle.rights.specs.declared.subjects.SubjectType.{SubjectType}
 use Rattle.rights.proofs.Checks.{demand_met, demand_failed}

@@ -1,13 +1,12 @@
 -- The nested loops of the search against the run rule: what is passed adds nothing, and what is found is the first.
-use Rattle.std.proofs.Common.{◌≡◌, ℕ, ◌+◌, ◌<◌, ◌≤◌, Bool, true, false, cond, not, ◌&&◌, eqb, ◌⊎◌, List, length, Some, None, Option, sym, refl, ap, ◌∙◌, subst, inl, inr, ⊎_elim, arith}
+use Rattle.std.proofs.Common.{◌≡◌, ℕ, ◌+◌, ◌<◌, ◌≤◌, Bool, true, false, cond, ◌⊎◌, List, length, Some, None, Option, ap, ◌∙◌, subst, inl, inr, ⊎_elim, arith}
 use Rattle.std.proofs.lemmas.Bool.{cases_eq}
 use Rattle.rights.specs.Firsts.{first, or_else}
-use Rattle.rights.specs.Sets.{has}
 use Rattle.rights.proofs.Found.{first_is, first_is_none, first_gave}
 use Rattle.books.specs.Meaning.{Meaning}
 use Rattle.safety.specs.declared.question.Move.{Move}
 use Rattle.safety.specs.declared.question.Move.TheVariants.{Add, Give}
-use Rattle.safety.specs.Rule.{receiver, right, held, adds, try, next_to, next}
+use Rattle.safety.specs.Rule.{receiver, right, adds, try, next_to, next}
 
 -- f gives nothing below i
 abbrev pub Clear : {A : Type 0} → (ℕ → Option A) → ℕ → Type 0

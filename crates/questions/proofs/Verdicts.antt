@@ -1,5 +1,5 @@
 -- The law, of the calls that the program makes.
-use Rattle.std.proofs.Common.{◌≡◌, ℕ, ◌≤◌, List, length, vec_items, sym, refl, ap, subst, arith}
+use Rattle.std.proofs.Common.{◌≡◌, List, vec_items, sym, refl, subst, arith}
 use Rattle.std.proofs.lemmas.List.{length-map}
 use Rattle.books.specs.Meaning.{Meaning, Lawful}
 use Rattle.monitor.specs.declared.grid.Grid.{Grid}

@@ -1,5 +1,5 @@
 -- What an accepted or refused check says, and how demands come out.
-use Rattle.std.proofs.Common.{◌≡◌, ℕ, ◌<◌, ◌≤◌, Bool, true, false, cond, T, ltb, is_ok, Ok, Err, Result, sym, refl, ap, ◌∙◌, arith}
+use Rattle.std.proofs.Common.{◌≡◌, ℕ, ◌<◌, ◌≤◌, Bool, true, false, cond, T, ltb, is_ok, Ok, Err, Result, sym, refl, ap, arith}
 use Rattle.std.proofs.lemmas.Bool.{ltb-true, ltb-false}
 use Rattle.rights.specs.declared.refusal.Refusal.{Refusal}
 use Rattle.rights.specs.declared.refusal.Refusal.TheVariants.{OutOfRange}

@@ -1,5 +1,5 @@
 -- The words of a program against the sets of the definitions: one law each, over the width w.
-use Rattle.std.proofs.Common.{◌≡◌, ℕ, zero, suc, ◌-◌, ◌*◌, ◌/◌, ◌%◌, ◌^◌, ◌<◌, ◌≤◌, Bool, true, false, cond, T, eqb, Some, None, Option, sym, refl, ap, ◌∙◌, subst, inl, inr, ⊎_elim, pow-suc, arith}
+use Rattle.std.proofs.Common.{◌≡◌, ℕ, zero, suc, ◌-◌, ◌*◌, ◌/◌, ◌%◌, ◌^◌, ◌<◌, Bool, true, false, cond, T, eqb, Some, None, sym, refl, ap, ◌∙◌, subst, ⊎_elim, pow-suc, arith}
 use lib.Bits.{bit_and, bit_or, bit_xor, and_mask, or_shifted_r}
 use lib.Count.{count_trailing_zeros, under}
 use Rattle.std.proofs.lemmas.Nat.{one_shl, pow_pos}

@@ -5,7 +5,7 @@ use lib.Bits.{bit_and, bit_xor, and_le_r, or_zero_l, or_zero_r}
 use lib.Dec.{eqb_refl}
 use Rattle.std.proofs.lemmas.Bool.{cases_lt, cases_eq, eq-eqb, ne_eqb}
 use Rattle.rights.specs.Sets.{nothing, has, add, remove, either, inside, Within, below, SetLaws}
-use Rattle.rights.proofs.Truth.{T_true, true_T, t_or, or_T_left, or_T_right, T_and}
+use Rattle.rights.proofs.Truth.{t_or, or_T_left, or_T_right, T_and}
 use Rattle.rights.proofs.Digits.{one_of, has_and, has_or, has_xor, has_none, has_one, has_past, same_rights}
 
 pub added : (H r q : ℕ) → has (add H r) q ≡ (has H q || eqb q r)

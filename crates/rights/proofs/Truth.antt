@@ -1,5 +1,5 @@
 -- Tests that come out true, as statements.
-use Rattle.std.proofs.Common.{◌≡◌, Bool, true, false, not, ◌&&◌, ◌||◌, T, ◌⊎◌, sym, refl, subst, inl, inr}
+use Rattle.std.proofs.Common.{◌≡◌, Bool, true, false, ◌&&◌, ◌||◌, T, ◌⊎◌, refl, inl, inr}
 
 pub T_true : {b : Bool} → b ≡ true → T b
 T_true e = rw e tt

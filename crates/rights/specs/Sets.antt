@@ -1,6 +1,6 @@
 -- A set of rights, as a number: right r is in it where its binary digit r is 1.
 -- Nothing here fixes how many rights there are: where it matters, the width w is a parameter.
-use Rattle.std.specs.Prelude.{◌≡◌, ℕ, zero, suc, ◌/◌, ◌%◌, ◌^◌, ◌<◌, Bool, true, false, cond, not, ◌&&◌, ◌||◌, T, Some, None, Option, ◌==◌, bit_and, bit_or, bit_xor}
+use Rattle.std.specs.Prelude.{◌≡◌, ℕ, zero, suc, ◌/◌, ◌%◌, ◌^◌, ◌<◌, Bool, false, cond, not, ◌&&◌, ◌||◌, T, Some, None, Option, ◌==◌, bit_and, bit_or, bit_xor}
 use Rattle.rights.specs.Firsts.{first}
 
 -- the set without any right

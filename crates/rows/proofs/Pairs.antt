@@ -1,10 +1,10 @@
 -- Creations: a pair that has none is new among the pairs, and so there is room for it.
-use Rattle.std.proofs.Common.{◌≡◌, ℕ, ◌+◌, ◌*◌, ◌<◌, ◌≤◌, Bool, true, false, cond, not, ◌&&◌, ◌||◌, eqb, ltb, List, [], ◌∷◌, ◌++◌, map, length, is_some, Some, None, Option, sym, refl, ap, ◌∙◌, subst, inl, inr, arith}
+use Rattle.std.proofs.Common.{◌≡◌, ℕ, ◌<◌, Bool, true, false, cond, eqb, ltb, List, [], ◌∷◌, ◌++◌, map, length, is_some, Some, Option, sym, refl, ap, ◌∙◌, arith}
 use Rattle.std.proofs.lemmas.List.{map_push, length-map, length_push}
-use Rattle.std.proofs.lemmas.Bool.{and_from, or_from, lt-ltb, eq-eqb, ne_eqb, cases_Bool, eqb-false, and_cases, false≢true}
+use Rattle.std.proofs.lemmas.Bool.{and_from, or_from, lt-ltb, eq-eqb, ne_eqb, false≢true}
 use Rattle.rows.specs.declared.row.Creation.{Creation}
 use Rattle.rows.specs.Lists.{listed, twice, all_below}
-use Rattle.rows.specs.Rules.{CreationRule, is_pair, created}
+use Rattle.rows.specs.Rules.{is_pair, created}
 use Rattle.rows.specs.Views.{creation_of, creations_of, pair_number}
 use Rattle.rows.proofs.Numbers.{twice_push, apart_short}
 

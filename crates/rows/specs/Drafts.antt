@@ -1,12 +1,12 @@
 -- A draft of a rule book, by number, and its declarations. Each is refused by the first test that fails, in the order
 -- 10, 8, 9, 20; a refused one leaves the draft as it was.
-use Rattle.std.specs.Prelude.{ℕ, ◌+◌, Bool, true, false, not, ◌&&◌, ◌||◌, List, [], length, is_some, Some, None, Ok, Err, Option, Result, ◌==◌, nat_lt}
+use Rattle.std.specs.Prelude.{ℕ, ◌+◌, Bool, true, not, ◌&&◌, ◌||◌, List, [], length, is_some, Some, None, Ok, Err, Option, Result, ◌==◌, nat_lt}
 use Rattle.rights.specs.Limits.{max_rights, max_subject_types, max_object_types, max_rows}
 use Rattle.rights.specs.Refusals.{demand, settle}
 use Rattle.rights.specs.declared.refusal.Refusal.{Refusal}
 use Rattle.rights.specs.declared.refusal.Refusal.TheVariants.{Repeated, EmptyNeed, OutOfRange, LimitReached}
 use Rattle.rows.specs.Lists.{twice, all_below, set_of}
-use Rattle.rows.specs.Rules.{Rule, CreationRule, Book, created, more_rules, more_creations}
+use Rattle.rows.specs.Rules.{Rule, Book, created, more_rules, more_creations}
 
 -- how many rights and types are declared: these numbers may be used
 pub record Counts : Type 0 where

@@ -1,15 +1,12 @@
 -- What rules give together: one more at a time, more for who holds more, and which rule gave it.
-use Rattle.std.specs.Prelude.{◌≡◌, ℕ, zero, suc, ◌+◌, ◌<◌, Bool, true, false, cond, ◌&&◌, T, ◌⊎◌, List, [], ◌∷◌, map, length, Some, None, Option, ◌==◌, slice_index_or, refl}
-use Rattle.std.proofs.Common.{sym, ap, subst, ◌∙◌, inl, inr, arith, le_of_suc-le-suc, eqb→eq}
+use Rattle.std.specs.Prelude.{◌≡◌, ℕ, zero, suc, ◌<◌, Bool, true, false, cond, ◌&&◌, T, List, [], ◌∷◌, length, Some, None, Option, ◌==◌, slice_index_or, refl}
+use Rattle.std.proofs.Common.{sym, ap, subst, inl, inr, arith, le_of_suc-le-suc, eqb→eq}
 use Rattle.std.proofs.Math.Dec.{eqb_refl}
-use Rattle.std.proofs.lemmas.List.{at_drop_more}
-use Rattle.rights.specs.Sets.{nothing, has, either, inside, Within}
+use Rattle.rights.specs.Sets.{nothing, has, inside, Within}
 use Rattle.rights.proofs.Truth.{T_and, and_T, t_or, or_T_left, or_T_right}
-use Rattle.rights.proofs.SetLaws.{joined, none_has, either_within, when_within, either_assoc, either_none, inside_within, within_inside}
-use Rattle.books.specs.Meaning.{Meaning, Lawful}
-use Rattle.rows.specs.declared.row.Row.{Row}
+use Rattle.rights.proofs.SetLaws.{joined, none_has, either_within, when_within, inside_within, within_inside}
+use Rattle.books.specs.Meaning.{Lawful}
 use Rattle.rows.specs.Rules.{Rule, Book, same_receiver, applies, gathered, book_meaning, no_rule, Gives, Given, RulesMean}
-use Rattle.rows.specs.Views.{rule_of, rules_of}
 
 pub same_receiver_eq : (a b : Option ℕ) → T (same_receiver a b) → a ≡ b
 same_receiver_eq None None t = refl

@@ -1,5 +1,5 @@
 -- The next move of the run rule is the earliest of all that add a right; where there is none, no move adds one.
-use Rattle.std.proofs.Common.{◌≡◌, ℕ, ◌<◌, Bool, true, false, cond, T, ◌⊎◌, List, length, Some, None, Option, refl, subst, inl, inr, arith}
+use Rattle.std.proofs.Common.{◌≡◌, ℕ, ◌<◌, Bool, true, false, cond, T, ◌⊎◌, List, length, Some, None, subst, inl, inr, arith}
 use Rattle.std.proofs.lemmas.Bool.{cases_order}
 use Rattle.rights.specs.Firsts.{first}
 use Rattle.books.specs.Meaning.{Meaning}

@@ -1,5 +1,5 @@
 -- What an answer is worth: the law of the questions, in the words of the model.
-use Rattle.std.specs.Prelude.{◌≡◌, ℕ, ◌<◌, ◌≤◌, Bool, false, ◌||◌, T, ◌⊎◌, List, [], ◌∷◌, map, length, take, drop, is_ok, Some, None, Option, ◌==◌, ◌≢◌}
+use Rattle.std.specs.Prelude.{◌≡◌, ℕ, ◌<◌, ◌≤◌, false, ◌||◌, T, ◌⊎◌, List, [], ◌∷◌, map, length, take, drop, is_ok, Some, None, ◌==◌, ◌≢◌}
 use Rattle.rights.specs.Limits.{max_subjects, max_objects}
 use Rattle.rights.specs.Sets.{has}
 use Rattle.books.specs.Meaning.{Meaning, Lawful}
@@ -17,7 +17,7 @@ use Rattle.safety.specs.declared.question.Call.TheVariants.{Act, Ask}
 use Rattle.safety.specs.declared.question.Reply.{Reply}
 use Rattle.safety.specs.declared.question.Reply.TheVariants as reply
 use Rattle.safety.specs.Runs.{after, after_calls, Attained}
-use Rattle.safety.specs.Rule.{step_for, receiver, right, held, adds, moved, fresh, after_create, shown}
+use Rattle.safety.specs.Rule.{step_for, held, adds, moved, fresh, after_create, shown}
 use Rattle.safety.specs.Questions.{asked}
 
 -- Every table is well_formed: at most 64 subjects, and for each object a cell for each subject.

@@ -1,5 +1,5 @@
 -- How a question and a call are answered.
-use Rattle.std.specs.Prelude.{ℕ, ◌+◌, ◌*◌, Bool, true, false, cond, ◌&&◌, List, [], ◌∷◌, ◌++◌, length, drop, Some, None, Ok, Err, Option, Result, nat_le, nat_lt}
+use Rattle.std.specs.Prelude.{ℕ, ◌+◌, Bool, cond, ◌&&◌, List, ◌++◌, length, drop, Some, None, Ok, Err, Option, Result, nat_le, nat_lt}
 use Rattle.rights.specs.Limits.{max_object_types}
 use Rattle.rights.specs.Refusals.{refusal_number, demand, settle}
 use Rattle.rights.specs.declared.refusal.Refusal.{Refusal}

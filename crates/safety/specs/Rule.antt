@@ -1,13 +1,13 @@
 -- The run rule: which run is shown. It stays in one column of the table. At each point it takes the first move that adds a
 -- right: receivers by number, for each one its transforms before the grants to it, grants by the giver's number, then the
 -- lowest right. It stops when the asked holding stands.
-use Rattle.std.specs.Prelude.{ℕ, zero, suc, ◌*◌, Bool, true, false, cond, not, ◌&&◌, List, [], ◌∷◌, map, length, set, replicate, Some, None, Option, ◌==◌, nat_lt, slice_index, slice_index_or, slice_set}
+use Rattle.std.specs.Prelude.{ℕ, zero, suc, ◌*◌, Bool, true, false, cond, not, ◌&&◌, List, [], ◌∷◌, map, length, replicate, Some, None, Option, ◌==◌, nat_lt, slice_index, slice_index_or, slice_set}
 use Rattle.rights.specs.Limits.{max_subjects, max_objects}
 use Rattle.rights.specs.Firsts.{first, or_else}
 use Rattle.rights.specs.Sets.{nothing, has, add}
 use Rattle.books.specs.Meaning.{Meaning}
 use Rattle.monitor.specs.declared.step.Step.{Step}
-use Rattle.monitor.specs.declared.step.Step.TheVariants.{Create, Transform, Grant, Revoke}
+use Rattle.monitor.specs.declared.step.Step.TheVariants.{Create, Transform, Grant}
 use Rattle.monitor.specs.States.{State, object, type_of}
 use Rattle.safety.specs.declared.question.Move.{Move}
 use Rattle.safety.specs.declared.question.Move.TheVariants.{Add, Give}

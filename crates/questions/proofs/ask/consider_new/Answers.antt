@@ -1,5 +1,5 @@
-use Rattle.std.proofs.Common.{◌≡◌, ℕ, ◌<◌, ◌≤◌, ◌&&◌, ltb, length, sym, ap, ◌∙◌, arith}
-use Rattle.std.proofs.lemmas.Bool.{and_from, and_left, lt-ltb}
+use Rattle.std.proofs.Common.{◌≤◌, ◌&&◌, ltb, length, ap, ◌∙◌, arith}
+use Rattle.std.proofs.lemmas.Bool.{and_left}
 use Rattle.rights.proofs.Checks.{checked_ok}
 use Rattle.monitor.specs.States.{is_subject}
 use Rattle.monitor.specs.Grids.{state_of}

@@ -1,5 +1,5 @@
-use Rattle.std.proofs.Common.{◌≡◌, ℕ, ◌<◌, true, ltb, length, Ok, sym, ap, ◌∙◌}
-use Rattle.std.proofs.lemmas.Bool.{and_from, and_left, lt-ltb}
+use Rattle.std.proofs.Common.{◌≡◌, ltb, length, Ok, ap, ◌∙◌}
+use Rattle.std.proofs.lemmas.Bool.{and_left}
 use Rattle.rights.specs.declared.refusal.Refusal.TheVariants.{OutOfRange}
 use Rattle.rights.proofs.Checks.{checked_ok, demand_ok}
 use Rattle.monitor.specs.States.{object, is_subject, is_object, in_table}
@@ -7,9 +7,9 @@ use Rattle.monitor.specs.Columns.{object_of}
 use Rattle.monitor.specs.Grids.{state_of}
 use Rattle.safety.specs.declared.question.Question.TheVariants.{Can}
 use Rattle.safety.specs.Rule.{find, as_steps}
-use Rattle.safety.specs.Questions.{told, in_range}
+use Rattle.safety.specs.Questions.{told}
 use Rattle.questions.specs.Views.{types_of}
-use Rattle.questions.proofs.Considering.{refused_range, refused_short, answered, subjects_length, subject_stands, no_subject, old_shown, old_range}
+use Rattle.questions.proofs.Considering.{refused_range, refused_short, answered, subjects_length, no_subject, old_shown, old_range}
 use Rattle.questions.proofs.ask.consider_old.Goals as goal
 
 pub returns-then-subject-types : goal.returns-then-subject-types

@@ -1,4 +1,4 @@
-use Rattle.std.proofs.Common.{◌≡◌, ◌+◌, get_or, set, ap, ◌∙◌, arith}
+use Rattle.std.proofs.Common.{◌+◌, get_or, set, ap, ◌∙◌, arith}
 use Rattle.monitor.specs.declared.step.Step.TheVariants.{Create}
 use Rattle.questions.proofs.Places.{written_none, written_more}
 use Rattle.questions.proofs.ask.place.Goals as goal

@@ -1,7 +1,6 @@
-use Rattle.std.proofs.Common.{◌≡◌, ℕ, suc, ◌+◌, ◌-◌, ◌<◌, ◌≤◌, length, take, set, Some, sym, ap, ◌∙◌, arith}
+use Rattle.std.proofs.Common.{◌≡◌, suc, ◌+◌, ◌-◌, ◌<◌, length, take, set, Some, sym, ap, ◌∙◌, arith}
 use Rattle.std.proofs.lemmas.List.{length-map}
 use Rattle.rights.specs.Sets.{has}
-use Rattle.safety.specs.Rule.{moved}
 use Rattle.questions.specs.Views.{types_of, cells_of}
 use Rattle.questions.proofs.Loops.{next_in_range}
 use Rattle.questions.proofs.Turns.{onward, ahead, found_here, none_here, none_left, one_more}

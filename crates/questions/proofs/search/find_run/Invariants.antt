@@ -1,4 +1,4 @@
-use Rattle.std.proofs.Common.{◌≡◌, ◌-◌, ◌≤◌, length, take}
+use Rattle.std.proofs.Common.{◌≡◌, ◌-◌, take}
 use Rattle.questions.specs.Views.{types_of, cells_of}
 use Rattle.questions.proofs.Turns.{onward, ahead}
 use Rattle.questions.proofs.search.find_run.Given as goal

@@ -1,11 +1,11 @@
-use Rattle.std.proofs.Common.{◌≡◌, ℕ, ◌<◌, ◌≤◌, Bool, true, false, not, ◌&&◌, eqb, List, length, sym, ap, ◌∙◌, arith}
+use Rattle.std.proofs.Common.{◌<◌, ◌≤◌, not, ◌&&◌, length, sym, ap, ◌∙◌, arith}
 use Rattle.std.proofs.lemmas.List.{length-map}
 use Rattle.std.proofs.lemmas.Bool.{ne_eqb}
 use Rattle.rights.specs.Sets.{has}
 use Rattle.safety.specs.declared.question.Move.TheVariants.{Add, Give}
 use Rattle.safety.specs.Rule.{held, allowance}
 use Rattle.questions.specs.Views.{types_of, cells_of}
-use Rattle.questions.proofs.Loops.{Clear, own, gift, gifts, clear_more, clear_none, clear_to, try_no, no_own, no_gift, no_gifts, found_own, found_gift, found_none}
+use Rattle.questions.proofs.Loops.{own, gift, gifts, clear_more, clear_none, clear_to, try_no, no_own, no_gift, no_gifts, found_own, found_gift, found_none}
 use Rattle.questions.proofs.search.next_move.Goals as goal
 
 pub loop-right-preserved : goal.loop-right-preserved

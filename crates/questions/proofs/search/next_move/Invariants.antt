@@ -1,4 +1,4 @@
-use Rattle.std.proofs.Common.{◌≡◌, ℕ, List, None}
+use Rattle.std.proofs.Common.{◌≡◌, None}
 use Rattle.rights.specs.Firsts.{first}
 use Rattle.questions.specs.Views.{types_of, cells_of}
 use Rattle.questions.proofs.Loops.{Clear, own, gift, gifts, Passed}

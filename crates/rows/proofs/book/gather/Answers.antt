@@ -1,4 +1,4 @@
-use Rattle.std.proofs.Common.{◌≡◌, ◌+◌, drop, ap, ◌∙◌}
+use Rattle.std.proofs.Common.{◌+◌, drop, ap, ◌∙◌}
 use Rattle.std.specs.Option.{option_map}
 use Rattle.rights.specs.Sets.{either}
 use Rattle.rights.proofs.SetLaws.{either_none}

@@ -1,6 +1,5 @@
-use Rattle.std.proofs.Common.{◌≡◌, ◌<◌, ◌≤◌, true, false, not, get_or, take, Ok, Err, sym, ap, ◌∙◌, arith}
+use Rattle.std.proofs.Common.{not, get_or, Ok, sym, ap, ◌∙◌, arith}
 use Rattle.std.proofs.lemmas.List.{take_all}
-use Rattle.rights.specs.Sets.{has, add}
 use Rattle.rights.specs.declared.refusal.Refusal.TheVariants.{Repeated}
 use Rattle.rights.proofs.Checks.{checked_ok, checked_err, demand_met, demand_failed}
 use Rattle.rows.specs.Lists.{twice, set_of}

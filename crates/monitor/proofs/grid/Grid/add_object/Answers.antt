@@ -1,4 +1,4 @@
-use Rattle.std.proofs.Common.{◌≡◌, ◌≤◌, length, vec_items, vec_len, vec_capacity, sym, ap, ◌∙◌, subst, arith}
+use Rattle.std.proofs.Common.{◌≤◌, length, vec_items, vec_len, vec_capacity, sym, ap, ◌∙◌, subst, arith}
 use Rattle.monitor.specs.Columns.{Full, Blank}
 use Rattle.monitor.specs.States.{in_table}
 use Rattle.monitor.specs.Grids.{state_from, state_of}

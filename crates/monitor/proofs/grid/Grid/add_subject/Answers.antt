@@ -1,4 +1,4 @@
-use Rattle.std.proofs.Common.{◌≡◌, ◌<◌, List, length, vec_items, sym, ap, ◌∙◌, subst, arith}
+use Rattle.std.proofs.Common.{◌<◌, length, vec_items, ap, ◌∙◌, subst, arith}
 use Rattle.monitor.specs.Columns.{Blank}
 use Rattle.monitor.specs.Grids.{state_from}
 use Rattle.monitor.proofs.Memory.{state_subject}

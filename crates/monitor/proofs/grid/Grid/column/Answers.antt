@@ -1,4 +1,4 @@
-use Rattle.std.proofs.Common.{◌≡◌, ◌<◌, ◌≤◌, Ok, vec_len, sym, ap, ◌∙◌, arith}
+use Rattle.std.proofs.Common.{◌<◌, Ok, vec_len, sym, ap, ◌∙◌, arith}
 use Rattle.rights.specs.declared.refusal.Refusal.TheVariants.{OutOfRange}
 use Rattle.rights.proofs.Checks.{demand_met, demand_failed}
 use Rattle.monitor.specs.States.{object}

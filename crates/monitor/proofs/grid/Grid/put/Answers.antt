@@ -1,7 +1,6 @@
-use Rattle.std.proofs.Common.{◌≡◌, ◌<◌, length, vec_items, vec_len, sym, ap, ◌∙◌, arith, rules}
+use Rattle.std.proofs.Common.{◌<◌, length, vec_items, vec_len, arith, rules}
 use Rattle.std.proofs.lemmas.List.{get_or_read}
-use Rattle.rights.specs.declared.objects.ObjectType.{ObjectType}
-use Rattle.monitor.specs.Columns.{no_column, Blank}
+use Rattle.monitor.specs.Columns.{no_column}
 use Rattle.monitor.proofs.Memory.{state_put, full_put, blank_put, in_subjects, in_columns}
 use Rattle.monitor.proofs.grid.Grid.put.Goals as goal
 

@@ -1,4 +1,4 @@
-use Rattle.std.proofs.Common.{◌≡◌, ◌<◌, sym, ap, ◌∙◌, subst, arith, rules}
+use Rattle.std.proofs.Common.{◌<◌, sym, ap, ◌∙◌, arith, rules}
 use Rattle.rights.specs.Sets.{leave_out}
 use Rattle.rights.proofs.Machine.{lowest_in}
 use Rattle.rights.proofs.SetLaws.{remove_lt}

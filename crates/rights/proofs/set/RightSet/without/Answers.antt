@@ -1,4 +1,4 @@
-use Rattle.std.proofs.Common.{◌≡◌, ◌<◌, true, sym, ap, ◌∙◌, rules}
+use Rattle.std.proofs.Common.{◌≡◌, ◌<◌, true, ap, ◌∙◌, rules}
 use Rattle.rights.specs.Sets.{has, remove}
 use Rattle.rights.proofs.Machine.{remove_word, remove_absent}
 use Rattle.rights.proofs.set.RightSet.without.Goals as goal
