@@ -1,11 +1,10 @@
 -- The theorems.
-use Rattle.std.proofs.Common.{◌≡◌, ℕ, zero, suc, ◌+◌, ◌⊎◌, List, [], ◌∷◌, ◌++◌, length, sym, refl, ap, ◌∙◌, subst, inl, inr, append_assoc, arith}
-use Rattle.grammar.specs.Bytes.{Class, word_byte, opening, closing, space, line_end, bad, class}
-use Rattle.grammar.specs.Items.{Items, render, GoodForm, GoodLine}
-use Rattle.grammar.specs.Reader.{State, start, form_closed, reason, lists, letters, Step, stop, step, Reading, formed, not_read, read_on, read_from, read}
-use Rattle.grammar.specs.Claims.{GoodLinesRead, OnlyGoodLines, BeginsLine, lists_after, letters_after, Stopped, RefusedAt, RefusedAtFirst, AlwaysAnswers}
+use Rattle.std.proofs.Common.{◌≡◌, ℕ, suc, ◌+◌, ◌⊎◌, List, [], ◌∷◌, ◌++◌, length, sym, refl, ap, ◌∙◌, subst, inl, inr, append_assoc, arith}
+use Rattle.grammar.specs.Bytes.{class}
+use Rattle.grammar.specs.Items.{Items, render}
+use Rattle.grammar.specs.Reader.{State, start, reason, lists, letters, stop, step, Reading, formed, not_read, read_on, read_from, read}
+use Rattle.grammar.specs.Claims.{GoodLinesRead, OnlyGoodLines, BeginsLine, lists_after, Stopped, RefusedAtFirst, AlwaysAnswers}
 use Rattle.rights.specs.declared.refusal.Refusal.{Refusal}
-use Rattle.grammar.proofs.Classes.{class_10}
 use Rattle.grammar.proofs.Walks.{Walk, walked, StopsAt, Tells, tells}
 use Rattle.grammar.proofs.Forward.{form_walk, ends}
 use Rattle.grammar.proofs.Kept.{text_walk, sound_walk, lists_walk, letters_walk}

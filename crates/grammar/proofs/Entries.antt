@@ -1,6 +1,6 @@
 -- Items are lists of items.
-use Rattle.std.proofs.Common.{◌≡◌, ℕ, List, [], ◌∷◌, ◌++◌, sym, refl, ap, ◌∙◌, subst, append_assoc, append-nil, arith}
-use Rattle.grammar.specs.Items.{Items, empty, with_word, with_list, gap, inside, render}
+use Rattle.std.proofs.Common.{◌≡◌, ℕ, List, [], ◌∷◌, ◌++◌, sym, refl, ap, ◌∙◌, append_assoc, append-nil, arith}
+use Rattle.grammar.specs.Items.{Items, empty, with_word, with_list, gap, inside}
 use Rattle.grammar.specs.Entries.{Item, word, list, entries, written, spaced, joined, ItemsAreLists}
 
 abbrev lead : List Item → List ℕ

@@ -1,10 +1,10 @@
 -- Every good form is walked over; and every walk can go on to the end of some form.
-use Rattle.std.proofs.Common.{◌≡◌, ℕ, zero, suc, ◌+◌, ◌<◌, ◌≤◌, List, [], ◌∷◌, ◌++◌, length, sym, refl, ap, subst, append_assoc, append-nil, arith, length-append}
-use Rattle.grammar.specs.Bytes.{Class, word_byte, opening, closing, space, line_end, class}
+use Rattle.std.proofs.Common.{◌≡◌, ℕ, suc, ◌+◌, ◌<◌, ◌≤◌, List, [], ◌∷◌, ◌++◌, length, sym, subst, append_assoc, append-nil, arith, length-append}
+use Rattle.grammar.specs.Bytes.{Class, word_byte, opening, closing, class}
 use Rattle.grammar.specs.Items.{Items, empty, with_word, with_list, gap, inside, render, WordBytes, GoodWord, Good, GoodForm}
 use Rattle.grammar.specs.Reader.{State, start, list_opened, word_begun, space_read, list_closed, form_closed, close, rests, ready}
 use Rattle.grammar.proofs.Classes.{class_40, class_41, class_32, class_97}
-use Rattle.grammar.proofs.Walks.{Moves, begin, nest_first, close_empty, word_first, close_word, more_word, space_word, nest_next, word_next, close_list, space_list, Walk, stay, walk, join, by}
+use Rattle.grammar.proofs.Walks.{Moves, begin, nest_first, close_empty, word_first, close_word, more_word, space_word, nest_next, word_next, close_list, space_list, Walk, stay, join, by}
 
 to_ready : (xs : Items) (os : List Items) → Walk (rests xs os) (gap xs) (ready xs os)
 to_ready empty os = stay

@@ -1,6 +1,6 @@
 -- What a walk keeps: the text of the state is what was walked over, the state is sound, and the two counts are the text's.
-use Rattle.std.proofs.Common.{◌≡◌, ℕ, zero, suc, ◌+◌, ◌<◌, ◌≤◌, List, [], ◌∷◌, ◌++◌, length, sym, refl, ap, ◌∙◌, subst, append_assoc, append-nil, arith, length-append}
-use Rattle.grammar.specs.Bytes.{Class, word_byte, opening, closing, space, line_end, class}
+use Rattle.std.proofs.Common.{◌≡◌, ℕ, suc, ◌<◌, List, [], ◌∷◌, ◌++◌, length, sym, refl, ap, ◌∙◌, append_assoc, append-nil, arith, length-append}
+use Rattle.grammar.specs.Bytes.{Class, word_byte, class}
 use Rattle.grammar.specs.Items.{Items, empty, with_word, with_list, gap, inside, render, WordBytes, GoodWord, Good}
 use Rattle.grammar.specs.Reader.{State, start, list_opened, word_begun, space_read, list_closed, form_closed, lists, letters, close}
 use Rattle.grammar.specs.Claims.{lists_by, letters_by, lists_after, letters_after}

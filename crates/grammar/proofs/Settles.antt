@@ -1,9 +1,7 @@
 -- A refusal, as the words have it, is what the reader answers.
-use Rattle.std.proofs.Common.{◌≡◌, ℕ, zero, suc, ◌+◌, ◌<◌, ◌≤◌, ◌⊎◌, List, [], ◌∷◌, ◌++◌, length, sym, refl, ap, ◌∙◌, subst, inl, inr, append_assoc, append-nil, arith}
-use Rattle.grammar.specs.Bytes.{class}
-use Rattle.grammar.specs.Items.{Items, GoodForm}
-use Rattle.grammar.specs.Reader.{reason, Reading, formed, not_read, read}
-use Rattle.grammar.specs.Claims.{BeginsLine, lists_after, letters_after, Stopped, RefusedAt, RefusalsSettle}
+use Rattle.std.proofs.Common.{◌≡◌, ℕ, List, [], ◌∷◌, ◌++◌, length, sym, refl, ◌∙◌, subst, append_assoc}
+use Rattle.grammar.specs.Reader.{Reading, formed, not_read, read}
+use Rattle.grammar.specs.Claims.{BeginsLine, Stopped, RefusedAt, RefusalsSettle}
 use Rattle.rights.specs.declared.refusal.Refusal.{Refusal}
 use Rattle.grammar.proofs.Claims.{only_good_lines, refused_at_first}
 

@@ -1,8 +1,8 @@
 -- Whole texts.
-use Rattle.std.proofs.Common.{◌≡◌, ℕ, zero, suc, ◌+◌, ◌<◌, ◌≤◌, List, [], ◌∷◌, ◌++◌, length, sym, refl, ap, ◌∙◌, subst, append_assoc, append-nil, add-zero, arith, length-append}
-use Rattle.grammar.specs.Items.{Items, inside, render, GoodForm}
+use Rattle.std.proofs.Common.{◌≡◌, ℕ, zero, suc, ◌+◌, ◌<◌, ◌≤◌, List, [], ◌∷◌, ◌++◌, length, sym, refl, ap, ◌∙◌, append_assoc, append-nil, add-zero, arith, length-append}
+use Rattle.grammar.specs.Items.{Items, render, GoodForm}
 use Rattle.grammar.specs.Reader.{Reading, formed, not_read, read}
-use Rattle.grammar.specs.Claims.{RefusedAt, RefusedAtFirst}
+use Rattle.grammar.specs.Claims.{RefusedAt}
 use Rattle.grammar.specs.Texts.{Split, all_lines, line_refused, before, on_line, split_from, split, lines_of, EachGood, AllLines, LineRefused, Tells, TextsSplit, GoodTextsSplit, OneSplit}
 use Rattle.rights.specs.declared.refusal.Refusal.{Refusal}
 use Rattle.grammar.proofs.Claims.{good_lines_read, only_good_lines, refused_at_first}

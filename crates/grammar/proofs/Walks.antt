@@ -1,5 +1,5 @@
 -- The moves of the reader, one for each way to go on, and walks of several.
-use Rattle.std.proofs.Common.{◌≡◌, ℕ, zero, suc, ◌+◌, ◌<◌, Bool, true, false, cond, T, ltb, List, [], ◌∷◌, ◌++◌, length, sym, refl, ap, ◌∙◌, subst, add-zero, arith, ltb→lt, lt→ltb}
+use Rattle.std.proofs.Common.{◌≡◌, ℕ, suc, ◌+◌, ◌<◌, Bool, true, false, cond, T, ltb, List, [], ◌∷◌, ◌++◌, length, sym, refl, ap, ◌∙◌, subst, add-zero, arith, ltb→lt, lt→ltb}
 use Rattle.grammar.specs.Bytes.{Class, word_byte, opening, closing, space, line_end, bad, class}
 use Rattle.grammar.specs.Items.{Items, empty, with_word, with_list}
 use Rattle.grammar.specs.Reader.{State, start, list_opened, word_begun, space_read, list_closed, form_closed, reason, lists, letters, Step, go, done, stop, close, step, Reading, formed, not_read, read_on, read_from}

@@ -2,7 +2,7 @@
 use Rattle.std.specs.Prelude.{◌≡◌, ℕ, suc, pred, ◌⊎◌, List, [], ◌∷◌, ◌++◌, length, ◌≢◌}
 use Rattle.grammar.specs.Bytes.{Class, word_byte, opening, closing, space, line_end, bad, class}
 use Rattle.grammar.specs.Items.{Items, render, GoodForm, GoodLine}
-use Rattle.grammar.specs.Reader.{reason, Reading, formed, not_read, read}
+use Rattle.grammar.specs.Reader.{reason, formed, not_read, read}
 use Rattle.rights.specs.declared.refusal.Refusal.{Refusal}
 use Rattle.rights.specs.declared.refusal.Refusal.TheVariants.{LineBroken}
 

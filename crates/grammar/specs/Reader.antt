@@ -1,5 +1,5 @@
 -- The reader of a line, byte by byte: what was read so far, which bytes may come then, and why any other is refused.
-use Rattle.std.specs.Prelude.{ℕ, zero, suc, Bool, true, false, cond, List, [], ◌∷◌, ◌++◌, length, ◌==◌, nat_lt}
+use Rattle.std.specs.Prelude.{ℕ, suc, cond, List, [], ◌∷◌, ◌++◌, length, ◌==◌, nat_lt}
 use Rattle.grammar.specs.Bytes.{Class, word_byte, opening, closing, space, line_end, bad, class}
 use Rattle.grammar.specs.Items.{Items, empty, with_word, with_list}
 use Rattle.grammar.specs.Limits.{max_word, max_depth}

@@ -1,5 +1,5 @@
 -- A word by itself, as a name that is given to a call: why some bytes are none, by the rule of a line.
-use Rattle.std.specs.Prelude.{◌≡◌, ℕ, suc, cond, List, [], ◌∷◌, ◌++◌, length, Some, None, Option, ◌==◌, nat_lt}
+use Rattle.std.specs.Prelude.{◌≡◌, ℕ, suc, cond, List, [], ◌∷◌, Some, None, Option, ◌==◌, nat_lt}
 use Rattle.rights.specs.declared.refusal.Refusal.{Refusal}
 use Rattle.rights.specs.declared.refusal.Refusal.TheVariants.{BadByte, LineBroken, WordTooLong}
 use Rattle.grammar.specs.Limits.{max_word}

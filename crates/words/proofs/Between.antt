@@ -3,7 +3,7 @@ use Rattle.std.proofs.Common.{◌≡◌, ℕ, suc, ◌+◌, ◌<◌, ◌≤◌, 
 use Rattle.std.proofs.lemmas.Bool.{lt-ltb, le-ltb}
 use Rattle.grammar.specs.Bytes.{Class, word_byte, opening, closing, space, line_end, bad, class}
 use Rattle.grammar.specs.Items.{Items, empty, with_word, with_list}
-use Rattle.grammar.specs.Reader.{start, list_opened, word_begun, form_closed, reason, lists, letters, go, stop, close, step, Reading, formed, not_read, read_on, read, rests, ready}
+use Rattle.grammar.specs.Reader.{start, list_opened, word_begun, form_closed, reason, lists, letters, go, stop, close, step, Reading, not_read, read_on, read, rests, ready}
 use Rattle.rights.specs.declared.refusal.Refusal.TheVariants.{LineBroken, TooDeep}
 use Rattle.words.specs.Tree.{part, reading, Refuses, WordEnds, ItemRead, ListRead, LineRead, WordRefused, ItemRefused, ListRefused, ItemDue}
 use Rattle.words.specs.declared.stop.Stop.{Stop}

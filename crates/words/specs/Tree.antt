@@ -1,5 +1,5 @@
 -- What the program's values stand for, and what the parts of the reader say of a text.
-use Rattle.std.specs.Prelude.{◌≡◌, ℕ, suc, ◌+◌, ◌-◌, ◌<◌, ◌≤◌, List, [], ◌∷◌, ◌++◌, length, drop, Some, None, Option, ◌≢◌, slice_index, slice_range}
+use Rattle.std.specs.Prelude.{◌≡◌, ℕ, suc, ◌+◌, ◌<◌, ◌≤◌, List, [], ◌∷◌, ◌++◌, length, drop, Some, None, Option, ◌≢◌, slice_index, slice_range}
 use Rattle.grammar.specs.Bytes.{word_byte, class}
 use Rattle.grammar.specs.Items as items
 use Rattle.grammar.specs.Entries as entries
