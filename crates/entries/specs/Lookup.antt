@@ -1,5 +1,5 @@
 -- The lookup of a name among names, by number.
-use Rattle.std.specs.Prelude.{◌≡◌, ℕ, suc, ◌<◌, cond, List, [], ◌∷◌, length, get_or, Some, None, Option, MatchOption, ◌≢◌, slice_index_or}
+use Rattle.std.specs.Prelude.{◌≡◌, ℕ, suc, ◌<◌, cond, List, [], ◌∷◌, length, Some, None, Option, MatchOption, ◌≢◌, slice_index_or}
 use Rattle.std.specs.Option.{option_map}
 use Rattle.std.specs.Str.{bytes_eq}
 
@@ -15,7 +15,7 @@ Nowhere name names = (k : ℕ) → k < length names → slice_index_or names k [
 -- the first place that has the name
 pub record First (name : List ℕ) (names : List (List ℕ)) (i : ℕ) : Type 0 where
   pub within : i < length names
-  pub here : get_or names i [] ≡ name
+  pub here : slice_index_or names i [] ≡ name
   pub before : (k : ℕ) → k < i → slice_index_or names k [] ≢ name
 
 -- The lookup finds the first place that has the name, and none exactly when no place has it.

@@ -3,10 +3,10 @@ ghost use Rattle.std.specs.Prelude.{◌≡◌, ℕ, List};
 
 // What is found by a name.
 pub trait Keyed: Sized {
-    ghost keyOf: { Self → List ℕ };
+    ghost key_of: { Self → List ℕ };
 
     fn key(&self) -> &[u8]
-        ensures { result.now ≡ keyOf self.now };
+        ensures { result.now ≡ key_of self.now };
 }
 
 #[derive(Drop)]
@@ -24,7 +24,7 @@ impl<K> Entry<K> {
 }
 
 impl<K> Keyed for Entry<K> {
-    ghost keyOf = { λ e. e.name.items };
+    ghost key_of = { λ e. e.name.items };
 
     fn key(&self) -> &[u8] {
         self.name.as_slice()

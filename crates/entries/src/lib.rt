@@ -12,7 +12,7 @@ pub use kind::Kind;
 
 // The place of the first entry that has the name.
 pub fn find<E: Keyed>(entries: &[E], name: &[u8]) -> Option<usize>
-    ensures { result ≡ place_of name.now (map keyOf entries.now) }
+    ensures { result ≡ place_of name.now (map E.key_of entries.now) }
 {
     for (i, entry) in entries.iter().enumerate() {
         if entry.key() == name {
@@ -24,7 +24,7 @@ pub fn find<E: Keyed>(entries: &[E], name: &[u8]) -> Option<usize>
 
 // Are there as many entries as there may be of their kind?
 pub fn is_full<K: Kind>(entries: &[Entry<K>]) -> bool
-    ensures { result ≡ not (nat_lt (length entries.now) bound) }
+    ensures { result ≡ not (nat_lt (length entries.now) K.bound) }
 {
     entries.len() >= K::most()
 }

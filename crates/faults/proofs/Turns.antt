@@ -28,16 +28,16 @@ module _ (text : List ℕ) (i : ℕ) where
         sym (take_all i text l) ∙ sym (append-nil (take i text)) ∙ ap (λ s. take i text ++ s) (sym (at_drop_all first_line text i l)) ∙ inv
 
   pub end_passed : (left : ℕ) → (left ≡ 0 → ⊥) → (left ≡ 1 → ⊥) → i < length text → byte ≡ 10 → from_line left (drop i text) ≡ from_line (left - 1) more
-  end_passed zero some not-here l is = absurd (some refl)
-  end_passed (suc zero) some not-here l is = absurd (not-here refl)
-  end_passed (suc (suc k)) some not-here l is =
+  end_passed zero some not_here l is = absurd (some refl)
+  end_passed (suc zero) some not_here l is = absurd (not_here refl)
+  end_passed (suc (suc k)) some not_here l is =
       let fewer : suc k ≡ suc (suc k) - 1 = omega arith in
       at_drop_more (after_ends (suc k)) text i 0 l ∙ cond-true (eqb byte 10) (after_ends k more) (after_ends (suc k) more) (eq-eqb byte 10 is) ∙ ap (λ n. from_line n more) fewer
 
   pub byte_passed : (left : ℕ) → (left ≡ 0 → ⊥) → (left ≡ 1 → ⊥) → i < length text → (byte ≡ 10 → ⊥) → from_line left (drop i text) ≡ from_line left more
-  byte_passed zero some not-here l other = absurd (some refl)
-  byte_passed (suc zero) some not-here l other = absurd (not-here refl)
-  byte_passed (suc (suc k)) some not-here l other =
+  byte_passed zero some not_here l other = absurd (some refl)
+  byte_passed (suc zero) some not_here l other = absurd (not_here refl)
+  byte_passed (suc (suc k)) some not_here l other =
       at_drop_more (after_ends (suc k)) text i 0 l ∙ cond-false (eqb byte 10) (after_ends k more) (after_ends (suc k) more) (ne_eqb byte 10 other)
 
 from_nothing : (left : ℕ) → from_line left [] ≡ []

@@ -33,14 +33,14 @@ form_at line (Grant u v o need gives) =
 form_at line Note = forms.note
 
 abbrev pub head_is : Head → forms.Head
-head_is head.Right = forms.right-head
-head_is head.SubjectType = forms.subject-type-head
-head_is head.ObjectType = forms.object-type-head
-head_is head.Owner = forms.owner-head
-head_is head.Create = forms.create-head
-head_is head.Transform = forms.itrans-head
-head_is head.Grant = forms.grant-head
-head_is head.Note = forms.note-head
+head_is head.Right = forms.right_head
+head_is head.SubjectType = forms.subject_type_head
+head_is head.ObjectType = forms.object_type_head
+head_is head.Owner = forms.owner_head
+head_is head.Create = forms.create_head
+head_is head.Transform = forms.itrans_head
+head_is head.Grant = forms.grant_head
+head_is head.Note = forms.note_head
 head_is head.Unknown = forms.no_head
 
 -- What was to be read was read, as `view` sees it; else the form is refused, or there was no memory.

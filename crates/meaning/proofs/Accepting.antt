@@ -70,12 +70,12 @@ row_line s t u to o need gives by receiver p q e =
     )
 
 -- a line that declares a name
-name_line : (s t : Named) (f : Form) (name : List ℕ) (is-taken : Bool) (names : List (List ℕ)) (limit : ℕ) (with-names : List (List ℕ) → Names)
-    → quiet (new_name name is-taken names limit (λ more. record { names = with-names more; book = s.book })) ≡ Ok t
-    → (is-taken ≡ false → t.names ≡ with-names (names ++ (name ∷ [])) → NamesStep s.names f t.names)
+name_line : (s t : Named) (f : Form) (name : List ℕ) (is_taken : Bool) (names : List (List ℕ)) (limit : ℕ) (with_names : List (List ℕ) → Names)
+    → quiet (new_name name is_taken names limit (λ more. record { names = with_names more; book = s.book })) ≡ Ok t
+    → (is_taken ≡ false → t.names ≡ with_names (names ++ (name ∷ [])) → NamesStep s.names f t.names)
     → ((names : Names) (b : Book) → There names b f) → Accepted s f t
-name_line s t f name is-taken names limit with-names e step there =
-    let (new, is) = named_ok name is-taken names limit (λ more. record { names = with-names more; book = s.book }) t e in
+name_line s t f name is_taken names limit with_names e step there =
+    let (new, is) = named_ok name is_taken names limit (λ more. record { names = with_names more; book = s.book }) t e in
     names_only s f t (step new (ap (λ x. x.names) is)) (ap (λ x. x.book) is) there
 
 pub accepted : (s : Named) (f : Form) (t : Named) → meant s f ≡ Ok t → Accepted s f t

@@ -66,14 +66,14 @@ both_met a b d e x y h =
     (first, second, same)
 
 -- a new name
-pub named_ok : (name : List ℕ) (is-taken : Bool) (names : List (List ℕ)) (limit : ℕ) (with-names : List (List ℕ) → Named) (t : Named)
-    → quiet (new_name name is-taken names limit with-names) ≡ Ok t → (is-taken ≡ false) × (t ≡ with-names (names ++ (name ∷ [])))
-named_ok name is-taken names limit with-names t e =
-    let (k, h) = ok_quiet (new_name name is-taken names limit with-names) t e in
+pub named_ok : (name : List ℕ) (is_taken : Bool) (names : List (List ℕ)) (limit : ℕ) (with_names : List (List ℕ) → Named) (t : Named)
+    → quiet (new_name name is_taken names limit with_names) ≡ Ok t → (is_taken ≡ false) × (t ≡ with_names (names ++ (name ∷ [])))
+named_ok name is_taken names limit with_names t e =
+    let (k, h) = ok_quiet (new_name name is_taken names limit with_names) t e in
     let (new, room, same) =
-    both_met (not is-taken) (ltb (length names) limit) Repeated LimitReached (t, k) (with-names (names ++ (name ∷ [])), length names)
+    both_met (not is_taken) (ltb (length names) limit) Repeated LimitReached (t, k) (with_names (names ++ (name ∷ [])), length names)
     (ok_unless (not_a_word name) _ (t, k) h) in
-    (not-true is-taken new, ap (λ x. x.0) same)
+    (not-true is_taken new, ap (λ x. x.0) same)
 
 -- declarations by number
 abbrev pub Booked : Named → Entry → Named → Type 0
@@ -119,6 +119,6 @@ pub row_ok : (s : Named) (u : ℕ) (receiver : Option ℕ) (o : ℕ) (need gives
 row_ok s u receiver o need gives t e =
     let rule : Rule = record { by = u; receiver = receiver; on = o; need = set_of need; gives = set_of gives } in
     let (next, h, is) = ok_by_number s (numbered s) (with_rule (numbered s) (rule_from (numbered s).counts u receiver o need gives)) t e in
-    let (its-rule, g, book) = with_rule_ok (numbered s) (rule_from (numbered s).counts u receiver o need gives) next h in
-    let same = rule_ok (numbered s).counts u receiver o need gives its-rule g in
+    let (its_rule, g, book) = with_rule_ok (numbered s) (rule_from (numbered s).counts u receiver o need gives) next h in
+    let same = rule_ok (numbered s).counts u receiver o need gives its_rule g in
     booked s (rule_entry rule) t next tt is (book ∙ ap (more_rules s.book) same)

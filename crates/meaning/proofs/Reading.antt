@@ -4,7 +4,7 @@ use Rattle.std.specs.Option.{option_map}
 use Rattle.std.specs.Str.{bytes_eq}
 use Rattle.std.proofs.lemmas.Slice.Eq.{bytes_eq-Decides}
 use Rattle.grammar.specs.Entries.{Item, word, list, entries}
-use Rattle.meaning.specs.Forms.{Form, right, subject_type, object_type, owner, create, itrans, grant, note, the_words, word_then, if_words, names_then, at_end, Head, right-head, subject-type-head, object-type-head, owner-head, create-head, itrans-head, grant-head, note-head, no_head, head_of, form_with, form_of, NamesList, Written, FormsRead}
+use Rattle.meaning.specs.Forms.{Form, right, subject_type, object_type, owner, create, itrans, grant, note, the_words, word_then, if_words, names_then, at_end, Head, right_head, subject_type_head, object_type_head, owner_head, create_head, itrans_head, grant_head, note_head, no_head, head_of, form_with, form_of, NamesList, Written, FormsRead}
 
 -- the words of a list of words
 words_of : (names : List (List ℕ)) → the_words (map word names) ≡ Some names
@@ -68,14 +68,14 @@ module _ (f : Form) where
 
 -- the word that a head is
 abbrev HeadIs : Head → List ℕ → Type 0
-HeadIs right-head w = w ≡ codes "right"
-HeadIs subject-type-head w = w ≡ codes "subject_type"
-HeadIs object-type-head w = w ≡ codes "object-type"
-HeadIs owner-head w = w ≡ codes "owner"
-HeadIs create-head w = w ≡ codes "create"
-HeadIs itrans-head w = w ≡ codes "itrans"
-HeadIs grant-head w = w ≡ codes "grant"
-HeadIs note-head w = w ≡ codes "note"
+HeadIs right_head w = w ≡ codes "right"
+HeadIs subject_type_head w = w ≡ codes "subject-type"
+HeadIs object_type_head w = w ≡ codes "object-type"
+HeadIs owner_head w = w ≡ codes "owner"
+HeadIs create_head w = w ≡ codes "create"
+HeadIs itrans_head w = w ≡ codes "itrans"
+HeadIs grant_head w = w ≡ codes "grant"
+HeadIs note_head w = w ≡ codes "note"
 HeadIs no_head w = Unit {0}
 
 head_by : (w v : List ℕ) (a b : Head) → (w ≡ v → HeadIs a w) → HeadIs b w → HeadIs (cond (bytes_eq w v) a b) w
@@ -86,10 +86,10 @@ head_by w v a b here later = by (bytes_eq w v) refl where
 
 head_is : (w : List ℕ) → HeadIs (head_of w) w
 head_is w =
-    head_by w (codes "right") right-head _ (λ e. e) (head_by w (codes "subject_type") subject-type-head _ (λ e. e)
-    (head_by w (codes "object-type") object-type-head _ (λ e. e) (head_by w (codes "owner") owner-head _ (λ e. e)
-    (head_by w (codes "create") create-head _ (λ e. e) (head_by w (codes "itrans") itrans-head _ (λ e. e)
-    (head_by w (codes "grant") grant-head _ (λ e. e) (head_by w (codes "note") note-head no_head (λ e. e) tt)))))))
+    head_by w (codes "right") right_head _ (λ e. e) (head_by w (codes "subject-type") subject_type_head _ (λ e. e)
+    (head_by w (codes "object-type") object_type_head _ (λ e. e) (head_by w (codes "owner") owner_head _ (λ e. e)
+    (head_by w (codes "create") create_head _ (λ e. e) (head_by w (codes "itrans") itrans_head _ (λ e. e)
+    (head_by w (codes "grant") grant_head _ (λ e. e) (head_by w (codes "note") note_head no_head (λ e. e) tt)))))))
 
 -- one name after the head
 one_name : (g : List ℕ → Form) (f : Form) (w v : List ℕ) → w ≡ v → (xs : List Item) → word_then xs (λ n. at_end (g n)) ≡ Some f
@@ -111,28 +111,28 @@ two_lists g f xs e =
     (need, gives, x, y, p, q, same, cc)
 
 with_head : (h : Head) (w : List ℕ) → HeadIs h w → (f : Form) (xs : List Item) → form_with h xs ≡ Some f → Written f (word w ∷ xs)
-with_head right-head w is f xs e = one_name right f w (codes "right") is xs e (λ n all. all)
-with_head subject-type-head w is f xs e = one_name subject_type f w (codes "subject_type") is xs e (λ n all. all)
-with_head object-type-head w is f xs e = one_name object_type f w (codes "object-type") is xs e (λ n all. all)
-with_head owner-head w is f xs e = one_name owner f w (codes "owner") is xs e (λ n all. all)
-with_head create-head w is f xs e =
+with_head right_head w is f xs e = one_name right f w (codes "right") is xs e (λ n all. all)
+with_head subject_type_head w is f xs e = one_name subject_type f w (codes "subject-type") is xs e (λ n all. all)
+with_head object_type_head w is f xs e = one_name object_type f w (codes "object-type") is xs e (λ n all. all)
+with_head owner_head w is f xs e = one_name owner f w (codes "owner") is xs e (λ n all. all)
+with_head create_head w is f xs e =
     let (u, us, a, h) = word_first f xs _ e in
     let (o, os, b, k) = word_first f us _ h in
     let (x, gets, rest, p, c, l) = names_first f os (λ gets. at_end (create u o gets)) k in
     let (none, same) = nothing_more f (create u o gets) rest l in
     subst (λ f. Written f (word w ∷ xs)) same (x, p, cc)
-with_head itrans-head w is f xs e =
+with_head itrans_head w is f xs e =
     let (u, us, a, h) = word_first f xs _ e in
     let (o, os, b, k) = word_first f us _ h in
     let (need, gives, x, y, p, q, same, c) = two_lists (itrans u o) f os k in
     subst (λ f. Written f (word w ∷ xs)) same (x, y, p, q, cc)
-with_head grant-head w is f xs e =
+with_head grant_head w is f xs e =
     let (u, us, a, h) = word_first f xs _ e in
     let (v, vs, b, k) = word_first f us _ h in
     let (o, os, c, l) = word_first f vs _ k in
     let (need, gives, x, y, p, q, same, d) = two_lists (grant u v o) f os l in
     subst (λ f. Written f (word w ∷ xs)) same (x, y, p, q, cc)
-with_head note-head w is f xs e = let same : note ≡ f = cc in subst (λ f. Written f (word w ∷ xs)) same (xs, ap (λ v. word v ∷ xs) is)
+with_head note_head w is f xs e = let same : note ≡ f = cc in subst (λ f. Written f (word w ∷ xs)) same (xs, ap (λ v. word v ∷ xs) is)
 with_head no_head w is f xs e = absurd (let z : ◌≡◌ {A = ℕ} 0 1 = cc in omega arith)
 
 only : (f : Form) (xs : List Item) → form_of xs ≡ Some f → Written f xs

@@ -21,11 +21,11 @@ taken name names = is_some (place_of name names)
 
 -- a new name of its kind: a word, not yet taken, within the limit; the answer is its number
 abbrev pub new_name : List ℕ → Bool → List (List ℕ) → ℕ → (List (List ℕ) → Named) → Result (Named × ℕ) Refusal
-new_name name is-taken names limit with-names =
+new_name name is_taken names limit with_names =
     unless_wrong (not_a_word name)
-    (demand (not is-taken) Repeated
+    (demand (not is_taken) Repeated
     (demand (nat_lt (length names) limit) LimitReached
-    (Ok (with-names (names ++ (name ∷ [])), length names))))
+    (Ok (with_names (names ++ (name ∷ [])), length names))))
 
 abbrev pub right_named : Named → List ℕ → Result (Named × ℕ) Refusal
 right_named s name =

@@ -47,32 +47,32 @@ at_end f [] = Some f
 at_end f (x ∷ xs) = None
 
 pub data Head : Type 0 where
-  right-head subject-type-head object-type-head owner-head create-head itrans-head grant-head note-head no_head : Head
+  right_head subject_type_head object_type_head owner_head create_head itrans_head grant_head note_head no_head : Head
 
 abbrev pub head_of : List ℕ → Head
 head_of w =
-    cond (bytes_eq w (codes "right")) right-head
-    (cond (bytes_eq w (codes "subject_type")) subject-type-head
-    (cond (bytes_eq w (codes "object-type")) object-type-head
-    (cond (bytes_eq w (codes "owner")) owner-head
-    (cond (bytes_eq w (codes "create")) create-head
-    (cond (bytes_eq w (codes "itrans")) itrans-head
-    (cond (bytes_eq w (codes "grant")) grant-head
-    (cond (bytes_eq w (codes "note")) note-head no_head)))))))
+    cond (bytes_eq w (codes "right")) right_head
+    (cond (bytes_eq w (codes "subject-type")) subject_type_head
+    (cond (bytes_eq w (codes "object-type")) object_type_head
+    (cond (bytes_eq w (codes "owner")) owner_head
+    (cond (bytes_eq w (codes "create")) create_head
+    (cond (bytes_eq w (codes "itrans")) itrans_head
+    (cond (bytes_eq w (codes "grant")) grant_head
+    (cond (bytes_eq w (codes "note")) note_head no_head)))))))
 
 -- the form with this head, if the items after it are right in count and kind
 abbrev pub form_with : Head → List Item → Option Form
-form_with right-head xs = word_then xs (λ n. at_end (right n))
-form_with subject-type-head xs = word_then xs (λ n. at_end (subject_type n))
-form_with object-type-head xs = word_then xs (λ n. at_end (object_type n))
-form_with owner-head xs = word_then xs (λ n. at_end (owner n))
-form_with create-head xs = word_then xs (λ u xs. word_then xs (λ o xs. names_then xs (λ gets. at_end (create u o gets))))
-form_with itrans-head xs =
+form_with right_head xs = word_then xs (λ n. at_end (right n))
+form_with subject_type_head xs = word_then xs (λ n. at_end (subject_type n))
+form_with object_type_head xs = word_then xs (λ n. at_end (object_type n))
+form_with owner_head xs = word_then xs (λ n. at_end (owner n))
+form_with create_head xs = word_then xs (λ u xs. word_then xs (λ o xs. names_then xs (λ gets. at_end (create u o gets))))
+form_with itrans_head xs =
     word_then xs (λ u xs. word_then xs (λ o xs. names_then xs (λ need xs. names_then xs (λ gives. at_end (itrans u o need gives)))))
-form_with grant-head xs =
+form_with grant_head xs =
     word_then xs (λ u xs. word_then xs (λ v xs. word_then xs (λ o xs.
     names_then xs (λ need xs. names_then xs (λ gives. at_end (grant u v o need gives))))))
-form_with note-head xs = Some note
+form_with note_head xs = Some note
 form_with no_head xs = None
 
 abbrev pub form_of : List Item → Option Form
@@ -86,7 +86,7 @@ NamesList x names = (i : Items) × (x ≡ list i) × (entries i ≡ map word nam
 
 abbrev pub Written : Form → List Item → Type 0
 Written (right n) xs = xs ≡ word (codes "right") ∷ word n ∷ []
-Written (subject_type n) xs = xs ≡ word (codes "subject_type") ∷ word n ∷ []
+Written (subject_type n) xs = xs ≡ word (codes "subject-type") ∷ word n ∷ []
 Written (object_type n) xs = xs ≡ word (codes "object-type") ∷ word n ∷ []
 Written (owner n) xs = xs ≡ word (codes "owner") ∷ word n ∷ []
 Written (create u o gets) xs = (x : Item) × NamesList x gets × (xs ≡ word (codes "create") ∷ word u ∷ word o ∷ x ∷ [])

@@ -1,7 +1,6 @@
 -- What a scheme that was read means, in terms of the lines of its text.
-use Rattle.std.specs.Prelude.{◌≡◌, ℕ, ◌<◌, T, ◌⊎◌, List, [], ◌∷◌, ◌++◌, length, Some, None, Ok, Option, slice_index_or}
+use Rattle.std.specs.Prelude.{◌≡◌, ℕ, ◌<◌, T, ◌⊎◌, List, [], ◌∷◌, ◌++◌, length, Some, Ok, slice_index_or}
 use Rattle.rights.specs.Sets.{has}
-use Rattle.books.specs.Meaning.{Meaning}
 use Rattle.rows.specs.Rules.{book_meaning}
 use Rattle.grammar.specs.Items.{Items}
 use Rattle.grammar.specs.Entries.{entries}

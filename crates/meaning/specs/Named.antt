@@ -1,7 +1,7 @@
 -- A scheme: the names of its rights and types, each at its number, and its book.
 use Rattle.std.specs.Prelude.{ℕ, List, [], length}
 use Rattle.rows.specs.Rules.{Book, empty_book}
-use Rattle.rows.specs.Drafts.{Counts, Declared}
+use Rattle.rows.specs.Drafts.{Declared}
 
 pub record Names : Type 0 where
   pub rights : List (List ℕ)

@@ -5,4 +5,4 @@ use Rattle.entries.proofs.find.Given as goal
 
 -- the name is not among the entries passed
 abbrev pub invariant-loop-i : goal.invariant-loop-i
-invariant-loop-i g l = ahead g.E.Keyed.keyOf l.name l.entries l.i ≡ place_of l.name (map g.E.Keyed.keyOf l.entries)
+invariant-loop-i g l = ahead g.E.Keyed.key_of l.name l.entries l.i ≡ place_of l.name (map g.E.Keyed.key_of l.entries)
