@@ -14,6 +14,7 @@ import sys
 
 NAME = r"[A-Za-z_][\w']*(?:-[\w']+)+"
 TOKEN = re.compile(r"(?<![\w'-])" + NAME + r"(?![\w'-])")
+WORD = re.compile(r'"[^"\n]*"|' + TOKEN.pattern)
 HEAD = re.compile(r"^\s*(?:(?:pub|abbrev|unfoldable|opaque) )*(?:(?:record|data) )?(" + NAME + r")(?: [({].*)? :(.*)")
 USE = re.compile(r"^use ([\w.+·-]+)\.\{([^}]*)\}", re.M)
 GIVEN = re.compile(r"^\s*(?:goal|need|given)\.")
@@ -94,7 +95,7 @@ def main():
         return
 
     def turn(text, skip):
-        return TOKEN.sub(lambda m: names[m[0]] if m[0] in names and m[0] not in skip else m[0], text)
+        return WORD.sub(lambda m: names[m[0]] if m[0] in names and m[0] not in skip else m[0], text)
 
     for path in files(".antt"):
         text = read(path)
