@@ -1,5 +1,5 @@
 -- One step of reading a form: a step that is denied denies the whole, and one that is taken leaves the rest due.
-use Rattle.std.proofs.Common.{◌≡◌, ℕ, false, List, [], Some, Ok, Err, vec_items, Option, Result, Vec, sym, refl, ap, ◌∙◌, subst}
+use Rattle.std.proofs.Common.{◌≡◌, ℕ, false, List, [], Some, Ok, Err, vec_items, Option, Result, Vec, sym, ap, ◌∙◌, subst}
 use Rattle.std.specs.declared.alloc.Global.{Global}
 use Rattle.grammar.specs.Entries.{Item}
 use Rattle.words.specs.declared.parts.Parts.{Parts}

@@ -5,7 +5,7 @@ ghost use Rattle.words.specs.Tree.{shape};
 ghost use Rattle.words.specs.Taking.{ahead};
 ghost use Rattle.std.specs.Str.{bytes_eq};
 ghost use Rattle.meaning.specs.Forms as forms;
-ghost use Rattle.meaning.specs.Forms.{head_of, form_of, form_with, the_words, word_then, at_end, create-head, itrans-head, grant-head};
+ghost use Rattle.meaning.specs.Forms.{head_of, form_of, form_with, the_words, word_then, at_end, create_head, itrans_head, grant_head};
 ghost use Rattle.forms.specs.Views.{name_at, names_at, form_at, head_is, TakenAs, WordNext, NamesNext, NothingNext};
 
 use crate::form::{Form, Head};
@@ -105,7 +105,7 @@ fn only_name(mut parts: Parts) -> Result<Word, Denial>
 }
 
 fn create(heap: Global, mut parts: Parts) -> Result<Form, Denial>
-    ensures { (line : List ℕ) → TakenAs (form_at line) (form_with create-head (ahead line parts)) result }
+    ensures { (line : List ℕ) → TakenAs (form_at line) (form_with create_head (ahead line parts)) result }
 {
     let creator = word(&mut parts)?;
     let object = word(&mut parts)?;
@@ -119,7 +119,7 @@ fn create(heap: Global, mut parts: Parts) -> Result<Form, Denial>
 }
 
 fn transform(heap: Global, mut parts: Parts) -> Result<Form, Denial>
-    ensures { (line : List ℕ) → TakenAs (form_at line) (form_with itrans-head (ahead line parts)) result }
+    ensures { (line : List ℕ) → TakenAs (form_at line) (form_with itrans_head (ahead line parts)) result }
 {
     let subject = word(&mut parts)?;
     let object = word(&mut parts)?;
@@ -135,7 +135,7 @@ fn transform(heap: Global, mut parts: Parts) -> Result<Form, Denial>
 }
 
 fn grant(heap: Global, mut parts: Parts) -> Result<Form, Denial>
-    ensures { (line : List ℕ) → TakenAs (form_at line) (form_with grant-head (ahead line parts)) result }
+    ensures { (line : List ℕ) → TakenAs (form_at line) (form_with grant_head (ahead line parts)) result }
 {
     let giver = word(&mut parts)?;
     let receiver = word(&mut parts)?;

@@ -1,4 +1,4 @@
-use Rattle.std.proofs.Common.{◌≡◌, Err, vec_items, ◌∙◌}
+use Rattle.std.proofs.Common.{Err, vec_items, ◌∙◌}
 use Rattle.std.proofs.lemmas.Result.{err_from_is_err_and}
 use Rattle.words.specs.Taking.{ahead}
 use Rattle.meaning.specs.Forms.{grant, word_then, names_then, at_end}
@@ -7,67 +7,67 @@ use Rattle.forms.proofs.Next.{word_comes}
 use Rattle.forms.proofs.Steps.{then_due, no_word, no_names, no_end}
 use Rattle.forms.proofs.read.grant.Goals as goal
 
-pub returns-in-err-giver : goal.returns-in-err-giver
-returns-in-err-giver c =
-    let p = err_from_is_err_and c.from-residual.result c.from-residual.ensures.1 in
+pub returns-in_err-giver : goal.returns-in_err-giver
+returns-in_err-giver c =
+    let p = err_from_is_err_and c.from_residual.result c.from_residual.ensures.1 in
     rw (p.1, p.2) (λ line.
-    no_word (form_at line) c.args.parts c.word.new.parts c.in-err-giver.field-0.0 line c.in-err-giver.ensures (λ giver xs. word_then xs (λ receiver xs. word_then xs (λ object xs. names_then xs (λ goal xs. names_then xs (λ gives. at_end (grant giver receiver object goal gives)))))))
+    no_word (form_at line) c.args.parts c.word.new.parts c.in_err-giver.field-0.0 line c.in_err-giver.ensures (λ giver xs. word_then xs (λ receiver xs. word_then xs (λ object xs. names_then xs (λ need xs. names_then xs (λ gives. at_end (grant giver receiver object need gives)))))))
 
-pub returns-in-err-receiver : goal.returns-in-err-receiver
-returns-in-err-receiver c =
-    let p = err_from_is_err_and c.from-residual-in-err-receiver.result c.from-residual-in-err-receiver.ensures.1 in
+pub returns-in_err-receiver : goal.returns-in_err-receiver
+returns-in_err-receiver c =
+    let p = err_from_is_err_and c.from_residual-in_err-receiver.result c.from_residual-in_err-receiver.ensures.1 in
     rw (p.1, p.2) (λ line.
-    then_due (form_at line) (Err c.in-err-receiver.field-0.0)
-    (word_comes (ahead line c.args.parts) (name_at line c.in-ok-giver.giver) (ahead line c.word.new.parts) (c.in-ok-giver.ensures line) (λ giver xs. word_then xs (λ receiver xs. word_then xs (λ object xs. names_then xs (λ goal xs. names_then xs (λ gives. at_end (grant giver receiver object goal gives)))))))
-    (no_word (form_at line) c.word.new.parts c.word-2.new.parts c.in-err-receiver.field-0.0 line c.in-err-receiver.ensures (λ receiver xs. word_then xs (λ object xs. names_then xs (λ goal xs. names_then xs (λ gives. at_end (grant (name_at line c.in-ok-giver.giver) receiver object goal gives)))))))
+    then_due (form_at line) (Err c.in_err-receiver.field-0.0)
+    (word_comes (ahead line c.args.parts) (name_at line c.in_ok-giver.giver) (ahead line c.word.new.parts) (c.in_ok-giver.ensures line) (λ giver xs. word_then xs (λ receiver xs. word_then xs (λ object xs. names_then xs (λ need xs. names_then xs (λ gives. at_end (grant giver receiver object need gives)))))))
+    (no_word (form_at line) c.word.new.parts c.word-2.new.parts c.in_err-receiver.field-0.0 line c.in_err-receiver.ensures (λ receiver xs. word_then xs (λ object xs. names_then xs (λ need xs. names_then xs (λ gives. at_end (grant (name_at line c.in_ok-giver.giver) receiver object need gives)))))))
 
-pub returns-in-err-object : goal.returns-in-err-object
-returns-in-err-object c =
-    let p = err_from_is_err_and c.from-residual-in-err-object.result c.from-residual-in-err-object.ensures.1 in
+pub returns-in_err-object : goal.returns-in_err-object
+returns-in_err-object c =
+    let p = err_from_is_err_and c.from_residual-in_err-object.result c.from_residual-in_err-object.ensures.1 in
     rw (p.1, p.2) (λ line.
-    then_due (form_at line) (Err c.in-err-object.field-0.0)
-    (word_comes (ahead line c.args.parts) (name_at line c.in-ok-giver.giver) (ahead line c.word.new.parts) (c.in-ok-giver.ensures line) (λ giver xs. word_then xs (λ receiver xs. word_then xs (λ object xs. names_then xs (λ goal xs. names_then xs (λ gives. at_end (grant giver receiver object goal gives))))))
-    ∙ word_comes (ahead line c.word.new.parts) (name_at line c.in-ok-receiver.receiver) (ahead line c.word-2.new.parts) (c.in-ok-receiver.ensures line) (λ receiver xs. word_then xs (λ object xs. names_then xs (λ goal xs. names_then xs (λ gives. at_end (grant (name_at line c.in-ok-giver.giver) receiver object goal gives))))))
-    (no_word (form_at line) c.word-2.new.parts c.word-3.new.parts c.in-err-object.field-0.0 line c.in-err-object.ensures (λ object xs. names_then xs (λ goal xs. names_then xs (λ gives. at_end (grant (name_at line c.in-ok-giver.giver) (name_at line c.in-ok-receiver.receiver) object goal gives))))))
+    then_due (form_at line) (Err c.in_err-object.field-0.0)
+    (word_comes (ahead line c.args.parts) (name_at line c.in_ok-giver.giver) (ahead line c.word.new.parts) (c.in_ok-giver.ensures line) (λ giver xs. word_then xs (λ receiver xs. word_then xs (λ object xs. names_then xs (λ need xs. names_then xs (λ gives. at_end (grant giver receiver object need gives))))))
+    ∙ word_comes (ahead line c.word.new.parts) (name_at line c.in_ok-receiver.receiver) (ahead line c.word-2.new.parts) (c.in_ok-receiver.ensures line) (λ receiver xs. word_then xs (λ object xs. names_then xs (λ need xs. names_then xs (λ gives. at_end (grant (name_at line c.in_ok-giver.giver) receiver object need gives))))))
+    (no_word (form_at line) c.word-2.new.parts c.word-3.new.parts c.in_err-object.field-0.0 line c.in_err-object.ensures (λ object xs. names_then xs (λ need xs. names_then xs (λ gives. at_end (grant (name_at line c.in_ok-giver.giver) (name_at line c.in_ok-receiver.receiver) object need gives))))))
 
-pub returns-in-err-need : goal.returns-in-err-need
-returns-in-err-need c =
-    let p = err_from_is_err_and c.from-residual-in-err-need.result c.from-residual-in-err-need.ensures.1 in
+pub returns-in_err-need : goal.returns-in_err-need
+returns-in_err-need c =
+    let p = err_from_is_err_and c.from_residual-in_err-need.result c.from_residual-in_err-need.ensures.1 in
     rw (p.1, p.2) (λ line.
-    then_due (form_at line) (Err c.in-err-need.field-0.0)
-    (word_comes (ahead line c.args.parts) (name_at line c.in-ok-giver.giver) (ahead line c.word.new.parts) (c.in-ok-giver.ensures line) (λ giver xs. word_then xs (λ receiver xs. word_then xs (λ object xs. names_then xs (λ goal xs. names_then xs (λ gives. at_end (grant giver receiver object goal gives))))))
-    ∙ word_comes (ahead line c.word.new.parts) (name_at line c.in-ok-receiver.receiver) (ahead line c.word-2.new.parts) (c.in-ok-receiver.ensures line) (λ receiver xs. word_then xs (λ object xs. names_then xs (λ goal xs. names_then xs (λ gives. at_end (grant (name_at line c.in-ok-giver.giver) receiver object goal gives)))))
-    ∙ word_comes (ahead line c.word-2.new.parts) (name_at line c.in-ok-object.object) (ahead line c.word-3.new.parts) (c.in-ok-object.ensures line) (λ object xs. names_then xs (λ goal xs. names_then xs (λ gives. at_end (grant (name_at line c.in-ok-giver.giver) (name_at line c.in-ok-receiver.receiver) object goal gives)))))
-    (no_names (form_at line) c.word-3.new.parts c.names.new.parts c.in-err-need.field-0.0 line c.in-err-need.ensures (λ goal xs. names_then xs (λ gives. at_end (grant (name_at line c.in-ok-giver.giver) (name_at line c.in-ok-receiver.receiver) (name_at line c.in-ok-object.object) goal gives)))))
+    then_due (form_at line) (Err c.in_err-need.field-0.0)
+    (word_comes (ahead line c.args.parts) (name_at line c.in_ok-giver.giver) (ahead line c.word.new.parts) (c.in_ok-giver.ensures line) (λ giver xs. word_then xs (λ receiver xs. word_then xs (λ object xs. names_then xs (λ need xs. names_then xs (λ gives. at_end (grant giver receiver object need gives))))))
+    ∙ word_comes (ahead line c.word.new.parts) (name_at line c.in_ok-receiver.receiver) (ahead line c.word-2.new.parts) (c.in_ok-receiver.ensures line) (λ receiver xs. word_then xs (λ object xs. names_then xs (λ need xs. names_then xs (λ gives. at_end (grant (name_at line c.in_ok-giver.giver) receiver object need gives)))))
+    ∙ word_comes (ahead line c.word-2.new.parts) (name_at line c.in_ok-object.object) (ahead line c.word-3.new.parts) (c.in_ok-object.ensures line) (λ object xs. names_then xs (λ need xs. names_then xs (λ gives. at_end (grant (name_at line c.in_ok-giver.giver) (name_at line c.in_ok-receiver.receiver) object need gives)))))
+    (no_names (form_at line) c.word-3.new.parts c.names.new.parts c.in_err-need.field-0.0 line c.in_err-need.ensures (λ need xs. names_then xs (λ gives. at_end (grant (name_at line c.in_ok-giver.giver) (name_at line c.in_ok-receiver.receiver) (name_at line c.in_ok-object.object) need gives)))))
 
-pub returns-in-err-gives : goal.returns-in-err-gives
-returns-in-err-gives c =
-    let p = err_from_is_err_and c.from-residual-in-err-gives.result c.from-residual-in-err-gives.ensures.1 in
+pub returns-in_err-gives : goal.returns-in_err-gives
+returns-in_err-gives c =
+    let p = err_from_is_err_and c.from_residual-in_err-gives.result c.from_residual-in_err-gives.ensures.1 in
     rw (p.1, p.2) (λ line.
-    then_due (form_at line) (Err c.in-err-gives.field-0.0)
-    (word_comes (ahead line c.args.parts) (name_at line c.in-ok-giver.giver) (ahead line c.word.new.parts) (c.in-ok-giver.ensures line) (λ giver xs. word_then xs (λ receiver xs. word_then xs (λ object xs. names_then xs (λ goal xs. names_then xs (λ gives. at_end (grant giver receiver object goal gives))))))
-    ∙ word_comes (ahead line c.word.new.parts) (name_at line c.in-ok-receiver.receiver) (ahead line c.word-2.new.parts) (c.in-ok-receiver.ensures line) (λ receiver xs. word_then xs (λ object xs. names_then xs (λ goal xs. names_then xs (λ gives. at_end (grant (name_at line c.in-ok-giver.giver) receiver object goal gives)))))
-    ∙ word_comes (ahead line c.word-2.new.parts) (name_at line c.in-ok-object.object) (ahead line c.word-3.new.parts) (c.in-ok-object.ensures line) (λ object xs. names_then xs (λ goal xs. names_then xs (λ gives. at_end (grant (name_at line c.in-ok-giver.giver) (name_at line c.in-ok-receiver.receiver) object goal gives))))
-    ∙ c.in-ok-need.ensures line (λ goal xs. names_then xs (λ gives. at_end (grant (name_at line c.in-ok-giver.giver) (name_at line c.in-ok-receiver.receiver) (name_at line c.in-ok-object.object) goal gives))))
-    (no_names (form_at line) c.names.new.parts c.names-2.new.parts c.in-err-gives.field-0.0 line c.in-err-gives.ensures (λ gives. at_end (grant (name_at line c.in-ok-giver.giver) (name_at line c.in-ok-receiver.receiver) (name_at line c.in-ok-object.object) (names_at line (vec_items c.in-ok-need.need)) gives))))
+    then_due (form_at line) (Err c.in_err-gives.field-0.0)
+    (word_comes (ahead line c.args.parts) (name_at line c.in_ok-giver.giver) (ahead line c.word.new.parts) (c.in_ok-giver.ensures line) (λ giver xs. word_then xs (λ receiver xs. word_then xs (λ object xs. names_then xs (λ need xs. names_then xs (λ gives. at_end (grant giver receiver object need gives))))))
+    ∙ word_comes (ahead line c.word.new.parts) (name_at line c.in_ok-receiver.receiver) (ahead line c.word-2.new.parts) (c.in_ok-receiver.ensures line) (λ receiver xs. word_then xs (λ object xs. names_then xs (λ need xs. names_then xs (λ gives. at_end (grant (name_at line c.in_ok-giver.giver) receiver object need gives)))))
+    ∙ word_comes (ahead line c.word-2.new.parts) (name_at line c.in_ok-object.object) (ahead line c.word-3.new.parts) (c.in_ok-object.ensures line) (λ object xs. names_then xs (λ need xs. names_then xs (λ gives. at_end (grant (name_at line c.in_ok-giver.giver) (name_at line c.in_ok-receiver.receiver) object need gives))))
+    ∙ c.in_ok-need.ensures line (λ need xs. names_then xs (λ gives. at_end (grant (name_at line c.in_ok-giver.giver) (name_at line c.in_ok-receiver.receiver) (name_at line c.in_ok-object.object) need gives))))
+    (no_names (form_at line) c.names.new.parts c.names-2.new.parts c.in_err-gives.field-0.0 line c.in_err-gives.ensures (λ gives. at_end (grant (name_at line c.in_ok-giver.giver) (name_at line c.in_ok-receiver.receiver) (name_at line c.in_ok-object.object) (names_at line (vec_items c.in_ok-need.need)) gives))))
 
-pub returns-in-err-end : goal.returns-in-err-end
-returns-in-err-end c =
-    let p = err_from_is_err_and c.from-residual-in-err-end.result c.from-residual-in-err-end.ensures.1 in
+pub returns-in_err-end : goal.returns-in_err-end
+returns-in_err-end c =
+    let p = err_from_is_err_and c.from_residual-in_err-end.result c.from_residual-in_err-end.ensures.1 in
     rw (p.1, p.2) (λ line.
-    then_due (form_at line) (Err c.in-err-end.field-0.0)
-    (word_comes (ahead line c.args.parts) (name_at line c.in-ok-giver.giver) (ahead line c.word.new.parts) (c.in-ok-giver.ensures line) (λ giver xs. word_then xs (λ receiver xs. word_then xs (λ object xs. names_then xs (λ goal xs. names_then xs (λ gives. at_end (grant giver receiver object goal gives))))))
-    ∙ word_comes (ahead line c.word.new.parts) (name_at line c.in-ok-receiver.receiver) (ahead line c.word-2.new.parts) (c.in-ok-receiver.ensures line) (λ receiver xs. word_then xs (λ object xs. names_then xs (λ goal xs. names_then xs (λ gives. at_end (grant (name_at line c.in-ok-giver.giver) receiver object goal gives)))))
-    ∙ word_comes (ahead line c.word-2.new.parts) (name_at line c.in-ok-object.object) (ahead line c.word-3.new.parts) (c.in-ok-object.ensures line) (λ object xs. names_then xs (λ goal xs. names_then xs (λ gives. at_end (grant (name_at line c.in-ok-giver.giver) (name_at line c.in-ok-receiver.receiver) object goal gives))))
-    ∙ c.in-ok-need.ensures line (λ goal xs. names_then xs (λ gives. at_end (grant (name_at line c.in-ok-giver.giver) (name_at line c.in-ok-receiver.receiver) (name_at line c.in-ok-object.object) goal gives)))
-    ∙ c.in-ok-gives.ensures line (λ gives. at_end (grant (name_at line c.in-ok-giver.giver) (name_at line c.in-ok-receiver.receiver) (name_at line c.in-ok-object.object) (names_at line (vec_items c.in-ok-need.need)) gives)))
-    (no_end (form_at line) c.names-2.new.parts c.in-err-end.field-0.0 line c.in-err-end.ensures (grant (name_at line c.in-ok-giver.giver) (name_at line c.in-ok-receiver.receiver) (name_at line c.in-ok-object.object) (names_at line (vec_items c.in-ok-need.need)) (names_at line (vec_items c.in-ok-gives.gives)))))
+    then_due (form_at line) (Err c.in_err-end.field-0.0)
+    (word_comes (ahead line c.args.parts) (name_at line c.in_ok-giver.giver) (ahead line c.word.new.parts) (c.in_ok-giver.ensures line) (λ giver xs. word_then xs (λ receiver xs. word_then xs (λ object xs. names_then xs (λ need xs. names_then xs (λ gives. at_end (grant giver receiver object need gives))))))
+    ∙ word_comes (ahead line c.word.new.parts) (name_at line c.in_ok-receiver.receiver) (ahead line c.word-2.new.parts) (c.in_ok-receiver.ensures line) (λ receiver xs. word_then xs (λ object xs. names_then xs (λ need xs. names_then xs (λ gives. at_end (grant (name_at line c.in_ok-giver.giver) receiver object need gives)))))
+    ∙ word_comes (ahead line c.word-2.new.parts) (name_at line c.in_ok-object.object) (ahead line c.word-3.new.parts) (c.in_ok-object.ensures line) (λ object xs. names_then xs (λ need xs. names_then xs (λ gives. at_end (grant (name_at line c.in_ok-giver.giver) (name_at line c.in_ok-receiver.receiver) object need gives))))
+    ∙ c.in_ok-need.ensures line (λ need xs. names_then xs (λ gives. at_end (grant (name_at line c.in_ok-giver.giver) (name_at line c.in_ok-receiver.receiver) (name_at line c.in_ok-object.object) need gives)))
+    ∙ c.in_ok-gives.ensures line (λ gives. at_end (grant (name_at line c.in_ok-giver.giver) (name_at line c.in_ok-receiver.receiver) (name_at line c.in_ok-object.object) (names_at line (vec_items c.in_ok-need.need)) gives)))
+    (no_end (form_at line) c.names-2.new.parts c.in_err-end.field-0.0 line c.in_err-end.ensures (grant (name_at line c.in_ok-giver.giver) (name_at line c.in_ok-receiver.receiver) (name_at line c.in_ok-object.object) (names_at line (vec_items c.in_ok-need.need)) (names_at line (vec_items c.in_ok-gives.gives)))))
 
 pub returns : goal.returns
 returns c = λ line.
-    word_comes (ahead line c.args.parts) (name_at line c.in-ok-giver.giver) (ahead line c.word.new.parts) (c.in-ok-giver.ensures line) (λ giver xs. word_then xs (λ receiver xs. word_then xs (λ object xs. names_then xs (λ goal xs. names_then xs (λ gives. at_end (grant giver receiver object goal gives))))))
-    ∙ word_comes (ahead line c.word.new.parts) (name_at line c.in-ok-receiver.receiver) (ahead line c.word-2.new.parts) (c.in-ok-receiver.ensures line) (λ receiver xs. word_then xs (λ object xs. names_then xs (λ goal xs. names_then xs (λ gives. at_end (grant (name_at line c.in-ok-giver.giver) receiver object goal gives)))))
-    ∙ word_comes (ahead line c.word-2.new.parts) (name_at line c.in-ok-object.object) (ahead line c.word-3.new.parts) (c.in-ok-object.ensures line) (λ object xs. names_then xs (λ goal xs. names_then xs (λ gives. at_end (grant (name_at line c.in-ok-giver.giver) (name_at line c.in-ok-receiver.receiver) object goal gives))))
-    ∙ c.in-ok-need.ensures line (λ goal xs. names_then xs (λ gives. at_end (grant (name_at line c.in-ok-giver.giver) (name_at line c.in-ok-receiver.receiver) (name_at line c.in-ok-object.object) goal gives)))
-    ∙ c.in-ok-gives.ensures line (λ gives. at_end (grant (name_at line c.in-ok-giver.giver) (name_at line c.in-ok-receiver.receiver) (name_at line c.in-ok-object.object) (names_at line (vec_items c.in-ok-need.need)) gives))
-    ∙ c.in-ok-end.ensures line (grant (name_at line c.in-ok-giver.giver) (name_at line c.in-ok-receiver.receiver) (name_at line c.in-ok-object.object) (names_at line (vec_items c.in-ok-need.need)) (names_at line (vec_items c.in-ok-gives.gives)))
+    word_comes (ahead line c.args.parts) (name_at line c.in_ok-giver.giver) (ahead line c.word.new.parts) (c.in_ok-giver.ensures line) (λ giver xs. word_then xs (λ receiver xs. word_then xs (λ object xs. names_then xs (λ need xs. names_then xs (λ gives. at_end (grant giver receiver object need gives))))))
+    ∙ word_comes (ahead line c.word.new.parts) (name_at line c.in_ok-receiver.receiver) (ahead line c.word-2.new.parts) (c.in_ok-receiver.ensures line) (λ receiver xs. word_then xs (λ object xs. names_then xs (λ need xs. names_then xs (λ gives. at_end (grant (name_at line c.in_ok-giver.giver) receiver object need gives)))))
+    ∙ word_comes (ahead line c.word-2.new.parts) (name_at line c.in_ok-object.object) (ahead line c.word-3.new.parts) (c.in_ok-object.ensures line) (λ object xs. names_then xs (λ need xs. names_then xs (λ gives. at_end (grant (name_at line c.in_ok-giver.giver) (name_at line c.in_ok-receiver.receiver) object need gives))))
+    ∙ c.in_ok-need.ensures line (λ need xs. names_then xs (λ gives. at_end (grant (name_at line c.in_ok-giver.giver) (name_at line c.in_ok-receiver.receiver) (name_at line c.in_ok-object.object) need gives)))
+    ∙ c.in_ok-gives.ensures line (λ gives. at_end (grant (name_at line c.in_ok-giver.giver) (name_at line c.in_ok-receiver.receiver) (name_at line c.in_ok-object.object) (names_at line (vec_items c.in_ok-need.need)) gives))
+    ∙ c.in_ok-end.ensures line (grant (name_at line c.in_ok-giver.giver) (name_at line c.in_ok-receiver.receiver) (name_at line c.in_ok-object.object) (names_at line (vec_items c.in_ok-need.need)) (names_at line (vec_items c.in_ok-gives.gives)))
