@@ -1,12 +1,12 @@
 -- The lines of a text, one after the other: how far a reading has come, and what the text then comes to.
-use Rattle.std.proofs.Common.{◌≡◌, ℕ, zero, suc, ◌+◌, ◌-◌, ◌*◌, ◌<◌, ◌≤◌, true, cond, leb, List, [], ◌∷◌, ◌++◌, length, take, drop, Ok, Err, Result, sym, refl, ap, ◌∙◌, subst, append_assoc, append-nil, add-one, arith, length-append, length-drop, drop-drop}
+use Rattle.std.proofs.Common.{◌≡◌, ℕ, suc, ◌+◌, ◌-◌, ◌*◌, ◌<◌, ◌≤◌, cond, List, [], ◌∷◌, ◌++◌, length, take, drop, Ok, Err, Result, sym, refl, ap, ◌∙◌, subst, append_assoc, append-nil, add-one, arith, length-append, length-drop, drop-drop}
 use Rattle.std.proofs.lemmas.List.{drop_all, take_all}
 use Rattle.std.proofs.lemmas.Bool.{le-leb}
 use Rattle.rights.specs.declared.refusal.Refusal.{Refusal}
 use Rattle.rights.specs.declared.refusal.Refusal.TheVariants.{TextTooLong}
 use Rattle.faults.specs.declared.fault.Fault.{Fault}
 use Rattle.grammar.specs.Limits.{max_text}
-use Rattle.grammar.specs.Items.{Items, inside, render, GoodForm}
+use Rattle.grammar.specs.Items.{Items, render, GoodForm}
 use Rattle.grammar.specs.Claims.{RefusedAt}
 use Rattle.grammar.specs.Texts.{Split, all_lines, line_refused, before, split, lines_of, EachGood, AllLines, LineRefused}
 use Rattle.grammar.proofs.Texts.{one_split, befores, split_begins}

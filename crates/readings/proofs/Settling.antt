@@ -1,5 +1,5 @@
 -- A declaration by number that was refused: nothing was due, and the scheme is as it was.
-use Rattle.std.proofs.Common.{◌≡◌, ℕ, Ok, Err, Result, refl, ap, arith}
+use Rattle.std.proofs.Common.{◌≡◌, ℕ, Ok, Err, Result, ap, arith}
 use Rattle.rights.specs.Refusals.{settle}
 use Rattle.rights.specs.declared.refusal.Refusal.{Refusal}
 use Rattle.words.specs.declared.stop.Denial.{Denial}

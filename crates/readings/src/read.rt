@@ -83,7 +83,7 @@ pub fn read_scheme(heap: Global, text: &[u8], scheme: &mut Scheme) -> Result<(),
     ensures reads { FilledAs (scheme_text text.now) (scheme_of scheme.new) result }
     ensures means { MeansIfRead text.now (scheme_of scheme.new) result }
 {
-    *scheme = Scheme::empty(heap);
+    scheme.clear();
     *scheme = read_draft(heap, text)?.fix();
     Ok(())
 }

@@ -1,5 +1,5 @@
 -- A draft with names over the draft by number: declarations by number leave the counts, and a new name adds one.
-use Rattle.std.proofs.Common.{◌≡◌, ℕ, Bool, true, false, not, ◌&&◌, ◌||◌, ltb, List, [], ◌∷◌, ◌++◌, map, length, is_some, Some, None, Ok, Err, vec_items, vec_len, Option, Result, sym, refl, ap, ◌∙◌, subst, arith}
+use Rattle.std.proofs.Common.{◌≡◌, ℕ, Bool, true, false, not, ◌&&◌, ◌||◌, ltb, List, length, is_some, Some, Ok, Err, vec_items, vec_len, Result, sym, refl, ap, ◌∙◌}
 use Rattle.std.proofs.lemmas.List.{length-map}
 use Rattle.rights.specs.Refusals.{demand, settle}
 use Rattle.rights.specs.declared.refusal.Refusal.{Refusal}
@@ -7,7 +7,7 @@ use Rattle.rights.specs.declared.refusal.Refusal.TheVariants.{Repeated, OutOfRan
 use Rattle.rights.specs.Limits.{max_rows}
 use Rattle.rows.specs.Lists.{all_below, twice, set_of}
 use Rattle.rows.specs.Rules.{Rule, Book, created, more_rules, more_creations}
-use Rattle.rows.specs.Drafts.{Counts, Declared, rule_from, with_rule}
+use Rattle.rows.specs.Drafts.{Declared, with_rule}
 use Rattle.rows.specs.Books.{declared_of}
 use Rattle.rows.specs.declared.draft.Draft.{Draft}
 use Rattle.meaning.specs.Named.{Named, numbered}
@@ -78,11 +78,16 @@ module _ (d : SchemeDraft) (due : Declared → Result (Declared × Unit {0}) Ref
   counts_left : (declared_of last).counts ≡ (declared_of d.draft).counts
   counts_left = ap (λ p. p.0.counts) done ∙ settled_counts (declared_of d.draft) (due (declared_of d.draft)) (leaves (declared_of d.draft))
 
-  pub still_counted : (vec_len d.rights ≡ last.rights) × ((vec_len d.subject_types ≡ last.subject_types) × ((vec_len d.object_types ≡ last.object_types) × Unit {0}))
-  still_counted = (
-    d.rights_counted ∙ sym (ap (λ c. c.rights) counts_left),
-    (d.subject_types_counted ∙ sym (ap (λ c. c.subject_types) counts_left), (d.object_types_counted ∙ sym (ap (λ c. c.object_types) counts_left), tt)),
-  )
+  pub still_counted : record {
+    rights_counted : vec_len d.rights ≡ last.rights;
+    subject_types_counted : vec_len d.subject_types ≡ last.subject_types;
+    object_types_counted : vec_len d.object_types ≡ last.object_types;
+  }
+  still_counted = record {
+    rights_counted = d.rights_counted ∙ sym (ap (λ c. c.rights) counts_left);
+    subject_types_counted = d.subject_types_counted ∙ sym (ap (λ c. c.subject_types) counts_left);
+    object_types_counted = d.object_types_counted ∙ sym (ap (λ c. c.object_types) counts_left);
+  }
 
   pub named_so : (record { names = (draft_of d).names; book = (declared_of last).book }, r)
       ≡ settle (draft_of d) (by_number (draft_of d) (settle (numbered (draft_of d)) (due (numbered (draft_of d)))))

@@ -1,6 +1,5 @@
 -- The program's drafts and schemes as names and a book.
-use Rattle.std.specs.Prelude.{ℕ, List, map, vec_items, Vec}
-use Rattle.std.specs.declared.alloc.Global.{Global}
+use Rattle.std.specs.Prelude.{ℕ, List, map, vec_items}
 use Rattle.entries.specs.declared.entry.Entry.{Entry}
 use Rattle.rows.specs.Books.{book_of, declared_of}
 use Rattle.meaning.specs.Named.{Named}

@@ -16,7 +16,7 @@ pub fn enter<K: Kind + Drop>(
     taken: bool,
     name: &[u8],
 ) -> Result<(), Denial>
-    ensures { CarriedOut (entered (names_in entries.old.items) taken name.now bound) (names_in entries.old.items) (names_in entries.new.items) result }
+    ensures { CarriedOut (entered (names_in entries.old.items) taken name.now K.bound) (names_in entries.old.items) (names_in entries.new.items) result }
 {
     test_word(name)?;
     if taken {

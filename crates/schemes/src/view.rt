@@ -1,5 +1,5 @@
 // What a scheme tells.
-ghost use Rattle.std.specs.Prelude.{◌≡◌};
+ghost use Rattle.std.specs.Prelude.{◌≡◌, IfOk};
 ghost use Rattle.rows.specs.Books.{book_of};
 ghost use Rattle.meaning.specs.Named.{nothing_named};
 ghost use Rattle.schemes.specs.Views.{names_in, scheme_of};
@@ -8,19 +8,30 @@ use crate::scheme::Scheme;
 use entries::Entry;
 use entries::kind::{ObjectTypeKind, RightKind, SubjectTypeKind};
 use rows::RowBook;
-use std::alloc::Global;
+use std::alloc::{AllocError, Global};
 
 impl Scheme {
-    // The scheme without a name, which permits nothing. It takes no memory.
-    pub fn empty(heap: Global) -> Scheme
-        ensures { scheme_of result ≡ nothing_named }
+    // The scheme without a name, which permits nothing.
+    pub fn empty(heap: Global) -> Result<Scheme, AllocError>
+        ensures { IfOk result (λ s. scheme_of s ≡ nothing_named) }
     {
-        Scheme {
+        let book = RowBook::empty(heap)?;
+        Ok(Scheme {
             rights: Vec::new(heap),
             subject_types: Vec::new(heap),
             object_types: Vec::new(heap),
-            book: RowBook::empty(heap),
-        }
+            book,
+        })
+    }
+
+    // Takes every name and every row away. What room there is stays.
+    pub fn clear(&mut self)
+        ensures { scheme_of self.new ≡ nothing_named }
+    {
+        self.rights.clear();
+        self.subject_types.clear();
+        self.object_types.clear();
+        self.book.clear();
     }
 
     pub fn book(&self) -> &RowBook

@@ -42,7 +42,7 @@ fn main(rt: HostRuntime) -> io::Result<()> {
     let mut input = Vec::new(heap);
     rt.stdin().read_to_end(&mut input)?;
     let mut out = BufWriter::new(heap, rt.stdout())?;
-    let mut scheme = Scheme::empty(heap);
+    let mut scheme = Scheme::empty(heap)?;
     let mut from = 0;
     while let Some((start, end)) = next_text(&input, from) {
         judge(heap, &mut out, &mut scheme, &input[start..end])?;

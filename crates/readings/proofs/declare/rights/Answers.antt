@@ -1,4 +1,4 @@
-use Rattle.std.proofs.Common.{◌≡◌, ◌+◌, vec_items, sym, ap, ◌∙◌}
+use Rattle.std.proofs.Common.{◌+◌, vec_items, sym, ap, ◌∙◌}
 use Rattle.std.proofs.lemmas.Result.{err_from_is_err_and}
 use Rattle.words.specs.declared.tree.Word.{Word}
 use Rattle.schemes.specs.Views.{draft_of}
@@ -13,20 +13,20 @@ loop-name-init c =
     let all = left c.args.line.now c.args.names.now (draft_of c.args.draft.now).names.rights 0 in
     ap (λ ks. with_found ks all) c.new-numbers.ensures.items ∙ none_found all
 
-pub returns-in-err-right : goal.returns-in-err-right
-returns-in-err-right c =
-    let p = err_from_is_err_and c.from-residual.result c.from-residual.ensures.1 in
+pub returns-in_err-right : goal.returns-in_err-right
+returns-in_err-right c =
+    let p = err_from_is_err_and c.from_residual.result c.from_residual.ensures.1 in
     rw (p.1, p.2)
     (sym c.loop-name.invariant
     ∙ missing_here c.args.line.now c.args.names.now (draft_of c.args.draft.now).names.rights c.loop-name.name-index nowhere c.loop-name-test.true (vec_items c.loop-name.numbers)
-    c.in-err-right.field-0.0 c.in-err-right.ensures)
+    c.in_err-right.field-0.0 c.in_err-right.ensures)
 
 pub loop-name-preserved : goal.loop-name-preserved
 loop-name-preserved c =
     let known = (draft_of c.args.draft.now).names.rights in
     let i = c.loop-name.name-index in
-    ap (λ ks. with_found ks (left c.args.line.now c.args.names.now known (i + 1))) c.in-ok-push.ensures.items
-    ∙ sym (found_here c.args.line.now c.args.names.now known i nowhere c.loop-name-test.true (vec_items c.loop-name.numbers) c.in-ok-right.field-0 c.in-ok-right.ensures)
+    ap (λ ks. with_found ks (left c.args.line.now c.args.names.now known (i + 1))) c.in_ok-push.ensures.items
+    ∙ sym (found_here c.args.line.now c.args.names.now known i nowhere c.loop-name-test.true (vec_items c.loop-name.numbers) c.in_ok-right.field-0 c.in_ok-right.ensures)
     ∙ c.loop-name.invariant
 
 pub returns : goal.returns
