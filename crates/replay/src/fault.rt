@@ -1,6 +1,6 @@
 // Why a line has no answer of its own.
 ghost use Rattle.std.specs.Prelude.{◌≡◌};
-ghost use Rattle.replay.specs.declared.fault.Fault.TheVariants.{Unreadable, Refused as Refused-call, Memory};
+ghost use Rattle.replay.specs.declared.fault.Fault.TheVariants.{Unreadable, Refused as RefusedCall, Memory};
 
 use rights::Refusal;
 use std::alloc::{AllocError, AllocFailed};
@@ -16,7 +16,7 @@ pub enum Fault {
 }
 
 impl From<Refusal> for Fault {
-    ghost from_gives = { λ e r. r ≡ Refused-call e };
+    ghost from_gives = { λ e r. r ≡ RefusedCall e };
 
     fn from(refusal: Refusal) -> Fault {
         Fault::Refused(refusal)
