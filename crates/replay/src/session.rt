@@ -1,6 +1,6 @@
 // The drafts, the book and the table that the calls are made on.
 ghost use Rattle.std.specs.Prelude.{◌≡◌, min, true, length, take, replicate, IfOk, None, Err, OnOk};
-ghost use Rattle.std.specs.List.{AllByRecursion as All};
+ghost use Rattle.std.specs.List.{AllByRecursion};
 ghost use Rattle.rights.specs.Limits.{max_rights};
 ghost use Rattle.rows.specs.Books.{declared_of};
 ghost use Rattle.monitor.specs.declared.step.Step.TheVariants.{Create};
@@ -136,7 +136,7 @@ fn shown_length(reply: Reply) -> usize
 
 // Does each of these places hold the marker?
 fn all_marked(places: &[Step]) -> bool
-    ensures { result ≡ true → All (λ s. s ≡ Create 7 7) places.now }
+    ensures { result ≡ true → AllByRecursion (λ s. s ≡ Create 7 7) places.now }
 {
     for step in places {
         if !is_marker(*step) {

@@ -1,5 +1,5 @@
 use Rattle.std.proofs.Common.{◌≡◌, subst}
-use Rattle.std.specs.List.{AllByRecursion as All}
+use Rattle.std.specs.List.{AllByRecursion}
 use Rattle.std.proofs.lemmas.List.{take_all}
 use Rattle.std.proofs.ByRecursion.{All-more}
 use Rattle.monitor.specs.declared.step.Step.TheVariants.{Create}
@@ -11,4 +11,4 @@ loop-step-preserved c =
 
 -- the loop went through all places
 pub returns : goal.returns
-returns c = λ _. subst (All (λ s. s ≡ Create 7 7)) (take_all c.loop-step.step-index c.args.places.now c.loop-step-test.false) c.loop-step.invariant
+returns c = λ _. subst (AllByRecursion (λ s. s ≡ Create 7 7)) (take_all c.loop-step.step-index c.args.places.now c.loop-step-test.false) c.loop-step.invariant
