@@ -1,2 +1,3 @@
 pub mod Review
 pub mod Points
+pub mod TextPoints

@@ -2,7 +2,12 @@
 #![tactic(auto)]
 
 ghost use Rattle.points.specs.Points.{Points};
+ghost use Rattle.points.specs.TextPoints.{TextPoints};
 
 pub fn points_stand()
     ensures { Points }
+{}
+
+pub fn text_points_stand()
+    ensures { TextPoints }
 {}
