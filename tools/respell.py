@@ -18,6 +18,8 @@ WORD = re.compile(r'"[^"\n]*"|' + TOKEN.pattern)
 HEAD = re.compile(r"^\s*(?:(?:pub|abbrev|unfoldable|opaque) )*(?:(?:record|data) )?(" + NAME + r")(?: [({].*)? :(.*)")
 USE = re.compile(r"^use ([\w.+·-]+)\.\{([^}]*)\}", re.M)
 GIVEN = re.compile(r"^\s*(?:goal|need|given)\.")
+# parameters, which no line declares at its start
+PARAMETERS = ("New-list", "is-taken", "after-names", "after-length", "before-i", "in-it")
 KIND = re.compile(r"(?:^|→| )Type 0\s*(?:where)?$")
 
 
@@ -83,6 +85,7 @@ def clauses(text):
 def main():
     crates = own_crates()
     names = {name: turned(name, kind) for name, kind in declared().items()}
+    names |= {name: turned(name, False) for name in PARAMETERS}
     back = {}
     for old, new in names.items():
         back.setdefault(new, []).append(old)

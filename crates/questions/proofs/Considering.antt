@@ -23,16 +23,16 @@ module _ (w : ℕ) (m : Meaning) (S : State) (q : Question) (list : List Step) w
   refused_range out = ap (settle list) (sym (demand_failed (in_range w S q) OutOfRange _ out))
 
   pub refused_short : in_range w S q ≡ true → length list < list_places w → (list, Err TooShort) ≡ settle list (considered w m S q list)
-  refused_short in-it short =
+  refused_short in_it short =
       ap (settle list)
-      (sym (demand_met (in_range w S q) OutOfRange _ in-it ∙ demand_failed (leb (list_places w) (length list)) TooShort _ (lt-leb (list_places w) (length list) short)))
+      (sym (demand_met (in_range w S q) OutOfRange _ in_it ∙ demand_failed (leb (list_places w) (length list)) TooShort _ (lt-leb (list_places w) (length list) short)))
 
   pub answered : in_range w S q ≡ true → list_places w ≤ length list → (new : List Step) (r : Reply) → (new, r) ≡ told list (shown w m S q)
       → (new, Ok r) ≡ settle list (considered w m S q list)
-  answered in-it long new r e =
+  answered in_it long new r e =
       ap (λ x. (x.0, Ok x.1)) e
       ∙ ap (settle list)
-      (sym (demand_met (in_range w S q) OutOfRange _ in-it ∙ demand_met (leb (list_places w) (length list)) TooShort _ (le-leb (list_places w) (length list) long)))
+      (sym (demand_met (in_range w S q) OutOfRange _ in_it ∙ demand_met (leb (list_places w) (length list)) TooShort _ (le-leb (list_places w) (length list) long)))
 
 -- the subject stands, by the types that were lent
 module _ (S : State) (types : List SubjectType) (same : types_of types ≡ S.subjects) where

@@ -33,14 +33,14 @@ module _ {X : Type 0} (run moves : List X) (at i : ℕ) (d : X) where
   written_more li lr =
       let y = get_or moves i d in
       let before_at : length (take at run) ≡ at = length-take-le at run (omega arith) in
-      let before-i : length (take i moves) ≡ i = length-take-le i moves (omega arith) in
+      let before_i : length (take i moves) ≡ i = length-take-le i moves (omega arith) in
       let e : at + i - at ≡ i = omega arith in
       let z : i - i ≡ 0 = omega arith in
       let n : at + i + 1 ≡ at + (i + 1) = omega arith in
       set-append_right (take at run) (take i moves ++ drop (at + i) run) at (at + i) y before_at (omega arith)
       ∙ ap (λ k. take at run ++ set (take i moves ++ drop (at + i) run) k y) e
       ∙ ap (λ l. take at run ++ l)
-      (set-append_right (take i moves) (drop (at + i) run) i i y before-i (omega arith)
+      (set-append_right (take i moves) (drop (at + i) run) i i y before_i (omega arith)
       ∙ ap (λ k. take i moves ++ set (drop (at + i) run) k y) z
       ∙ ap (λ l. take i moves ++ set l 0 y) (drop_more run (at + i) d lr)
       ∙ sym (append_assoc (take i moves) (y ∷ []) (drop (at + i + 1) run))

@@ -48,25 +48,25 @@ EachWorks w m S [] = Unit {0}
 EachWorks w m S (x ∷ xs) =
     T (is_ok (perform w m S x).1) × Grows S x (perform w m S x).0 × EachWorks w m (perform w m S x).0 xs
 
--- A can with count n, put with this list, which is New-list now: the run stands in the first n places and the rest is as it
+-- A can with count n, put with this list, which is new_list now: the run stands in the first n places and the rest is as it
 -- was; it is the run that the run rule fixes; each step works; it ends with the asked holding.
-pub record Shows (w : ℕ) (m : Meaning) (S : State) (q : Question) (list : List Step) (n : ℕ) (New-list : List Step) : Type 0 where
-  pub count : length (take n New-list) ≡ n
-  pub rest : drop n New-list ≡ drop n list
-  pub places : length New-list ≡ length list
-  pub ruled : shown w m S q ≡ Some (take n New-list)
-  pub works : EachWorks w m S (take n New-list)
-  pub attains : Attained S q (after w m S (take n New-list))
+pub record Shows (w : ℕ) (m : Meaning) (S : State) (q : Question) (list : List Step) (n : ℕ) (new_list : List Step) : Type 0 where
+  pub count : length (take n new_list) ≡ n
+  pub rest : drop n new_list ≡ drop n list
+  pub places : length new_list ≡ length list
+  pub ruled : shown w m S q ≡ Some (take n new_list)
+  pub works : EachWorks w m S (take n new_list)
+  pub attains : Attained S q (after w m S (take n new_list))
 
 -- The law of one question, put to the table S with this list, and of its reply and its list afterwards.
-pub record Judged (w : ℕ) (m : Meaning) (S : State) (q : Question) (list : List Step) (New-list : List Step) (answer : Reply) : Type 0 where
+pub record Judged (w : ℕ) (m : Meaning) (S : State) (q : Question) (list : List Step) (new_list : List Step) (answer : Reply) : Type 0 where
   -- never: no list of steps ends with the asked holding, and the run list is as it was
   pub never_right : answer ≡ reply.Never → NoList w m S q
-  pub never_list : answer ≡ reply.Never → New-list ≡ list
+  pub never_list : answer ≡ reply.Never → new_list ≡ list
   -- where no list of steps does, and the question is answered, the answer is never
   pub never_told : (answer ≡ reply.Never) ⊎ ((n : ℕ) × (answer ≡ reply.Can n)) → NoList w m S q → answer ≡ reply.Never
   -- can: the shown run works
-  pub can_right : (n : ℕ) → answer ≡ reply.Can n → Shows w m S q list n New-list
+  pub can_right : (n : ℕ) → answer ≡ reply.Can n → Shows w m S q list n new_list
   -- once never, never can: after any list of calls, with any run list
   pub never_lasts : answer ≡ reply.Never → (calls : List Call) (other : List Step) (n : ℕ)
       → (asked w m (after_calls w m S calls) q other).1 ≢ reply.Can n
@@ -125,5 +125,5 @@ RuleFollowed = (w : ℕ) (m : Meaning) (S : State) (q : Question) (run : List St
 -- The law of any call, put to the table S with this list, and of the table, the list and the reply afterwards: a step leaves
 -- the list, and a question leaves the table and is judged.
 abbrev pub CallJudged : ℕ → Meaning → State → Call → List Step → State → List Step → Reply → Type 0
-CallJudged w m S (Act x) list New New-list answer = New-list ≡ list
-CallJudged w m S (Ask q) list New New-list answer = (New ≡ S) × Judged w m S q list New-list answer
+CallJudged w m S (Act x) list New new_list answer = new_list ≡ list
+CallJudged w m S (Ask q) list New new_list answer = (New ≡ S) × Judged w m S q list new_list answer

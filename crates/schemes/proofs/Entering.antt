@@ -23,24 +23,24 @@ kept : (b : Bool) → false ≡ not b → b ≡ true
 kept true e = refl
 kept false e = absurd (let z : ◌≡◌ {A = ℕ} 0 1 = cc in omega arith)
 
-module _ {K : Type 0} (entries : List (Entry K)) (is-taken : Bool) (name : List ℕ) (limit : ℕ) (word : not_a_word name ≡ None) (new : is-taken ≡ false) where
+module _ {K : Type 0} (entries : List (Entry K)) (is_taken : Bool) (name : List ℕ) (limit : ℕ) (word : not_a_word name ≡ None) (new : is_taken ≡ false) where
   abbrev tests : Bool → Bool → Option Refusal → Type 0
   tests t room wrong =
-      entered (names_in entries) is-taken name limit
+      entered (names_in entries) is_taken name limit
       ≡ unless_wrong wrong (demand (not t) Repeated (demand room LimitReached (Ok (names_in entries ++ (name ∷ []), tt))))
 
   passed : (room : Bool) → ltb (length entries) limit ≡ room → tests false room None
   passed room e =
-      ap (λ w. unless_wrong w (demand (not is-taken) Repeated (demand (ltb (length (names_in entries)) limit) LimitReached (Ok (names_in entries ++ (name ∷ []), tt))))) word
+      ap (λ w. unless_wrong w (demand (not is_taken) Repeated (demand (ltb (length (names_in entries)) limit) LimitReached (Ok (names_in entries ++ (name ∷ []), tt))))) word
       ∙ ap (λ t. demand (not t) Repeated (demand (ltb (length (names_in entries)) limit) LimitReached (Ok (names_in entries ++ (name ∷ []), tt)))) new
       ∙ ap (λ n. demand (ltb n limit) LimitReached (Ok (names_in entries ++ (name ∷ []), tt))) (length-map entries (λ e. vec_items e.name))
       ∙ ap (λ b. demand b LimitReached (Ok (names_in entries ++ (name ∷ []), tt))) e
 
-  pub entered_full : true ≡ not (ltb (length entries) limit) → entered (names_in entries) is-taken name limit ≡ Err LimitReached
+  pub entered_full : true ≡ not (ltb (length entries) limit) → entered (names_in entries) is_taken name limit ≡ Err LimitReached
   entered_full e = passed false (turned (ltb (length entries) limit) e)
 
   pub entered_new : (more : List (Entry K)) (entry : Entry K) → false ≡ not (ltb (length entries) limit) → more ≡ entries ++ (entry ∷ []) → vec_items entry.name ≡ name
-      → entered (names_in entries) is-taken name limit ≡ Ok (names_in more, tt)
+      → entered (names_in entries) is_taken name limit ≡ Ok (names_in more, tt)
   entered_new more entry e grown named =
       passed true (kept (ltb (length entries) limit) e)
       ∙ ap (λ n. Ok (names_in entries ++ (n ∷ []), tt)) (sym named)

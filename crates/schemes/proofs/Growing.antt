@@ -66,9 +66,9 @@ one_more : (b : Bool) (d more : Declared) (n : ℕ) (last : Draft) (r : Result �
 one_more b d more n last r room done = done ∙ ap (λ t. settle d (demand t LimitReached (Ok (more, n)))) room
 
 -- what a new name comes to: the list of names is one longer, and so is the draft by number
-pub record Grown (names after-names : List (List ℕ)) (after-length count : ℕ) (t : Bool) (name : List ℕ) (limit : ℕ) (more : Declared) (last : Draft) (r : Result ℕ Refusal) : Type 0 where
-  pub longer : after-length ≡ count + 1
-  pub named : (w : List (List ℕ) → Named) → new_name name t names limit w ≡ Ok (w after-names, count)
+pub record Grown (names after_names : List (List ℕ)) (after_length count : ℕ) (t : Bool) (name : List ℕ) (limit : ℕ) (more : Declared) (last : Draft) (r : Result ℕ Refusal) : Type 0 where
+  pub longer : after_length ≡ count + 1
+  pub named : (w : List (List ℕ) → Named) → new_name name t names limit w ≡ Ok (w after_names, count)
   pub by_number : ◌≡◌ {A = Declared × Result ℕ Refusal} (declared_of last, r) (more, Ok count)
 
 pub grown_so : {K : Type 0} (before after : List (Entry K)) (count : ℕ) → length before ≡ count → (t : Bool) (name : List ℕ) (limit : ℕ)
@@ -81,8 +81,8 @@ grown_so before after count is t name limit e d more last r done = record {
   by_number = one_more (ltb count limit) d more count last r (room before after count is t name limit e) done;
 }
 
-module _ {names after-names : List (List ℕ)} {after-length count : ℕ} {t : Bool} {name : List ℕ} {limit : ℕ} {more : Declared} {last : Draft} {r : Result ℕ Refusal}
-    (G : Grown names after-names after-length count t name limit more last r) where
+module _ {names after_names : List (List ℕ)} {after_length count : ℕ} {t : Bool} {name : List ℕ} {limit : ℕ} {more : Declared} {last : Draft} {r : Result ℕ Refusal}
+    (G : Grown names after_names after_length count t name limit more last r) where
   answered : r ≡ Ok count
   answered = ap (λ p. p.1) G.by_number
 
@@ -90,11 +90,11 @@ module _ {names after-names : List (List ℕ)} {after-length count : ℕ} {t : B
   never_refused e h = let a = answered in let z : ◌≡◌ {A = ℕ} 0 1 = cc in omega arith
 
   -- the declaration that was due, where the name was taken or not as the program found
-  pub declared_so : (taken : Bool) (w : List (List ℕ) → Named) (m : ℕ) → t ≡ taken → r ≡ Ok m → (w after-names).book ≡ more.book
-      → new_name name taken names limit w ≡ Ok (record { names = (w after-names).names; book = (declared_of last).book }, m)
+  pub declared_so : (taken : Bool) (w : List (List ℕ) → Named) (m : ℕ) → t ≡ taken → r ≡ Ok m → (w after_names).book ≡ more.book
+      → new_name name taken names limit w ≡ Ok (record { names = (w after_names).names; book = (declared_of last).book }, m)
   declared_so taken w m e h b =
       let a = answered in
       let same : count ≡ m = cc in
       ap (λ x. new_name name x names limit w) (sym e) ∙ G.named w
-      ∙ ap (λ x. Ok (record { names = (w after-names).names; book = x }, count)) (b ∙ sym (ap (λ p. p.0.book) G.by_number))
-      ∙ ap (λ n. Ok (record { names = (w after-names).names; book = (declared_of last).book }, n)) same
+      ∙ ap (λ x. Ok (record { names = (w after_names).names; book = x }, count)) (b ∙ sym (ap (λ p. p.0.book) G.by_number))
+      ∙ ap (λ n. Ok (record { names = (w after_names).names; book = (declared_of last).book }, n)) same

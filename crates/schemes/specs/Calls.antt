@@ -16,8 +16,8 @@ CarriedOut due before after (Err Memory) = after ≡ before
 
 -- one more name, if it is a word, is not taken and is within the limit
 abbrev pub entered : List (List ℕ) → Bool → List ℕ → ℕ → Result (List (List ℕ) × Unit {0}) Refusal
-entered names is-taken name limit =
+entered names is_taken name limit =
     unless_wrong (not_a_word name)
-    (demand (not is-taken) Repeated
+    (demand (not is_taken) Repeated
     (demand (nat_lt (length names) limit) LimitReached
     (Ok (names ++ (name ∷ []), tt))))
