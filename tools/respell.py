@@ -6,7 +6,8 @@ usage: python3 tools/respell.py [--list]     at the top of the repository; --lis
 A name is the repository's own where a line of a file of specs/ or proofs/ declares it, as a definition, a lemma, a field of a
 record or a constructor. A declaration by the type of a goal (`goal.x`, `need.x`, `given.x`) has a name that Rattle gives, which stays.
 In a file that imports a name from elsewhere that name stays too. Of a .rt file only clauses, ghost items and ghost imports are
-turned; comments, strings and code stay. Of a page of docs/ and of README.md only words between backquotes are turned.
+turned; comments, strings and code stay. Of a comment in a .antt file an English word stays (ENGLISH). Of a page of docs/ and of
+README.md only a name that stands alone between backquotes is turned.
 """
 import os
 import re
@@ -20,6 +21,8 @@ USE = re.compile(r"^use ([\w.+·-]+)\.\{([^}]*)\}", re.M)
 GIVEN = re.compile(r"^\s*(?:goal|need|given)\.")
 # parameters, which no line declares at its start
 PARAMETERS = ("New-list", "is-taken", "after-names", "after-length", "before-i", "in-it")
+# names that comments use as words of the language
+ENGLISH = re.compile(r"(?m)^( *-- .*)\bwell-formed\b")
 KIND = re.compile(r"(?:^|→| )Type 0\s*(?:where)?$")
 
 
@@ -113,7 +116,7 @@ def main():
                 print("stands already:", path, names[old])
         for old in sorted(set(TOKEN.findall(plain)) & set(names) & skip):
             print("left:", path, old)
-        new = turn(text, skip)
+        new = turn(ENGLISH.sub(r"\1well formed", text), skip).replace("well formed", "well-formed")
         if new != text:
             with open(path, "w", encoding="utf-8") as f:
                 f.write(new)
@@ -130,7 +133,7 @@ def main():
     pages = ["README.md"] + [os.path.join("docs", f) for f in sorted(os.listdir("docs")) if f.endswith(".md")]
     for path in pages:
         text = read(path)
-        new = re.sub(r"`[^`\n]*`", lambda m: turn(m[0], set()), text)
+        new = re.sub(r"`" + NAME + r"`", lambda m: turn(m[0], set()), text)
         if new != text:
             with open(path, "w", encoding="utf-8") as f:
                 f.write(new)

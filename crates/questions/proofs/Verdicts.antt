@@ -15,7 +15,7 @@ use Rattle.safety.specs.Questions.{asked, called}
 use Rattle.safety.specs.Laws.{WellFormed, Judged, ListsJudged, CallJudged}
 use Rattle.safety.proofs.Judge.{judged, lists_judged}
 
--- a table of the program is well_formed
+-- a table of the program is well-formed
 well_formed : (g : Grid) → WellFormed (state_of g)
 well_formed g = record {
   few = omega (arith, length-map (vec_items g.subjects) (λ t. t.number), g.few_subjects, g.subjects.ok.0);

@@ -120,7 +120,7 @@ calls_keep w m P step S h [] = h
 calls_keep w m P step S h (Act x ∷ calls) = calls_keep w m P step (perform w m S x).0 (step S h x) calls
 calls_keep w m P step S h (Ask q ∷ calls) = calls_keep w m P step S h calls
 
--- A step keeps the table well_formed, and removes no object.
+-- A step keeps the table well-formed, and removes no object.
 pub well_cell : (S : State) → WellFormed S → (d o x : ℕ) → o < length S.objects → WellFormed (with_cell S d o x)
 well_cell S wf d o x l = record {
   few = wf.few;

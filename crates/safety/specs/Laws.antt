@@ -20,7 +20,7 @@ use Rattle.safety.specs.Runs.{after, after_calls, Attained}
 use Rattle.safety.specs.Rule.{step_for, held, adds, moved, fresh, after_create, shown}
 use Rattle.safety.specs.Questions.{asked}
 
--- Every table is well_formed: at most 64 subjects, and for each object a cell for each subject.
+-- Every table is well-formed: at most 64 subjects, and for each object a cell for each subject.
 pub record WellFormed (S : State) : Type 0 where
   pub few : length S.subjects ≤ max_subjects
   pub square : (o : ℕ) → o < length S.objects → length (object S o).cells ≡ length S.subjects
