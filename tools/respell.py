@@ -19,8 +19,8 @@ WORD = re.compile(r'"[^"\n]*"|' + TOKEN.pattern)
 HEAD = re.compile(r"^\s*(?:(?:pub|abbrev|unfoldable|opaque) )*(?:(?:record|data) )?(" + NAME + r")(?: [({].*)? :(.*)")
 USE = re.compile(r"^use ([\w.+·-]+)\.\{([^}]*)\}", re.M)
 GIVEN = re.compile(r"^\s*(?:goal|need|given)\.")
-# parameters, which no line declares at its start
-PARAMETERS = ("New-list", "is-taken", "after-names", "after-length", "before-i", "in-it")
+# parameters, and names under which a file imports others: no line declares them at its start
+OTHERS = ("New-list", "is-taken", "after-names", "after-length", "before-i", "in-it", "object-in", "join-in", "receiver-of")
 # names that comments use as words of the language
 ENGLISH = re.compile(r"(?m)^( *-- .*)\bwell-formed\b")
 KIND = re.compile(r"(?:^|→| )Type 0\s*(?:where)?$")
@@ -88,7 +88,7 @@ def clauses(text):
 def main():
     crates = own_crates()
     names = {name: turned(name, kind) for name, kind in declared().items()}
-    names |= {name: turned(name, False) for name in PARAMETERS}
+    names |= {name: turned(name, False) for name in OTHERS}
     back = {}
     for old, new in names.items():
         back.setdefault(new, []).append(old)

@@ -4,9 +4,9 @@ ghost use Rattle.rights.specs.Limits.{max_rights, max_subjects};
 ghost use Rattle.rights.specs.Refusals.{demand, on_ok};
 ghost use Rattle.rights.specs.declared.refusal.Refusal.TheVariants.{OutOfRange};
 ghost use Rattle.monitor.specs.declared.step.Step.TheVariants.{Create, Transform, Grant, Revoke};
-ghost use Rattle.monitor.specs.States.{object as object-in, cell as cell_in, is_object, in_table};
+ghost use Rattle.monitor.specs.States.{object as object_in, cell as cell_in, is_object, in_table};
 ghost use Rattle.monitor.specs.Columns.{object_of};
-ghost use Rattle.monitor.specs.Machine.{join as join-in, owns, perform as performed};
+ghost use Rattle.monitor.specs.Machine.{join as join_in, owns, perform as performed};
 ghost use Rattle.monitor.specs.Laws.{Obeys};
 ghost use Rattle.monitor.specs.Grids.{state_of};
 
@@ -59,7 +59,7 @@ impl Table {
 
     // A copy of an object's column.
     pub fn column(&self, number: usize) -> Result<Column, Refusal>
-        ensures value { on_ok (object_of (length (state_of self.now.grid).subjects)) result ≡ demand (is_object (state_of self.now.grid) number) OutOfRange (Ok (object-in (state_of self.now.grid) number)) }
+        ensures value { on_ok (object_of (length (state_of self.now.grid).subjects)) result ≡ demand (is_object (state_of self.now.grid) number) OutOfRange (Ok (object_in (state_of self.now.grid) number)) }
         ensures full { IfOk result (λ c. length c.cells ≡ max_subjects) }
     {
         self.grid.column(number)
@@ -69,7 +69,7 @@ impl Table {
     fn join(&mut self, subject: usize, object: usize, held: RightSet, right: Right) -> Done
         requires stands { in_table (state_of self.old.grid) subject object ≡ true }
         requires held { held.bits ≡ cell_in (state_of self.old.grid) subject object }
-        ensures { (state_of self.new.grid, result) ≡ join-in (state_of self.old.grid) subject object right.number }
+        ensures { (state_of self.new.grid, result) ≡ join_in (state_of self.old.grid) subject object right.number }
     {
         self.grid.put(subject, object, held.with(right));
         Done::Added(!held.contains(right))

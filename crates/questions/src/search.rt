@@ -3,7 +3,7 @@ ghost use Rattle.std.specs.Prelude.{◌≡◌, ◌<◌, ◌≤◌, not, ◌&&◌
 ghost use Rattle.std.specs.Option.{option_map};
 ghost use Rattle.rights.specs.Limits.{max_rights};
 ghost use Rattle.rights.specs.Sets.{has, add};
-ghost use Rattle.safety.specs.Rule.{held, receiver as receiver-of, right as right_of, moved, step_for, next, find, as_steps, most_moves};
+ghost use Rattle.safety.specs.Rule.{held, receiver as receiver_of, right as right_of, moved, step_for, next, find, as_steps, most_moves};
 ghost use Rattle.questions.specs.Views.{types_of, cells_of};
 
 use books::RuleBook;
@@ -128,7 +128,7 @@ fn join(cells: &mut [RightSet], subject: usize, number: usize)
 
 // The column after the move.
 fn apply(cells: &mut [RightSet], step: Move)
-    requires stands { receiver-of step < length cells.old }
+    requires stands { receiver_of step < length cells.old }
     requires small { right_of step < max_rights }
     ensures { cells_of cells.new ≡ moved (cells_of cells.old) step }
 {

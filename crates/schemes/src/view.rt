@@ -24,7 +24,7 @@ impl Scheme {
         })
     }
 
-    // Takes every name and every row away. What room there is stays.
+    // Takes every name and every row away.
     pub fn clear(&mut self)
         ensures { scheme_of self.new ≡ nothing_named }
     {
