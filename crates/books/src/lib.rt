@@ -2,7 +2,6 @@
 #![tactic(auto)]
 
 ghost use Rattle.std.specs.Prelude.{◌≡◌};
-ghost use Rattle.std.specs.Option.{option_map};
 ghost use Rattle.books.specs.Meaning.{Meaning, Lawful};
 
 use rights::{ObjectType, Right, RightSet, SubjectType};
@@ -14,7 +13,7 @@ pub trait RuleBook {
 
     // What a subject of this type may add for itself by a transform, when it holds `held` for an object of this type.
     fn may_add(&self, subject: SubjectType, object: ObjectType, held: RightSet) -> RightSet
-        ensures { result.bits ≡ (meaning self.now).may_add subject.number object.number held.bits };
+        ensures { result ≡ (meaning self.now).may_add subject object held };
 
     // What it may give to another subject, of the receiver's type.
     fn may_give(
@@ -24,15 +23,15 @@ pub trait RuleBook {
         object: ObjectType,
         held: RightSet,
     ) -> RightSet
-        ensures { result.bits ≡ (meaning self.now).may_give giver.number receiver.number object.number held.bits };
+        ensures { result ≡ (meaning self.now).may_give giver receiver object held };
 
     // What a creator of this type gets for a new object of this type, or none where there is no creation.
     fn creation(&self, creator: SubjectType, object: ObjectType) -> Option<RightSet>
-        ensures { option_map (λ x. x.bits) result ≡ (meaning self.now).creation creator.number object.number };
+        ensures { result ≡ (meaning self.now).creation creator object };
 
     // The right that marks an owner, or none.
     fn owner(&self) -> Option<Right>
-        ensures { option_map (λ x. x.number) result ≡ (meaning self.now).owner };
+        ensures { result ≡ (meaning self.now).owner };
 
     ghost lawful: { (book : Self) → Lawful (meaning book) };
 }

@@ -1,6 +1,6 @@
 // The classes of bytes.
 
-#[derive(Clone, Copy)]
+#[derive(Clone, Copy, Debug, PartialEq, Eq)]
 pub enum ByteClass {
     // a to z, 0 to 9, hyphen, asterisk.
     WordByte,

@@ -14,5 +14,5 @@ use table::CLASS;
 pub fn class_of(b: u8) -> ByteClass
     ensures { sort result ≡ class b }
 {
-    CLASS[b as usize]
+    CLASS[usize::from(b)]
 }

@@ -1,101 +1,85 @@
--- The lookup: one place more, and what it finds.
-use Rattle.std.proofs.Common.{◌≡◌, ℕ, zero, suc, ◌+◌, ◌<◌, ◌≤◌, Bool, true, false, cond, List, [], ◌∷◌, map, length, get_or, drop, Some, None, Decides, Option, sym, refl, ap, ◌∙◌, subst, inl, inr, arith, MatchOption}
+-- What the lookup finds.
+use Rattle.std.proofs.Common.{◌≡◌, ℕ, ◌<◌, ◌≤◌, Bool, true, false, cond, not, ◌+◌, List, [], map, length, get_or, Some, None, Option, sym, refl, ap, ◌∙◌, inl, inr, arith}
 use Rattle.std.proofs.lemmas.Slice.Eq.{bytes_eq-Decides}
-use Rattle.std.proofs.lemmas.List.{at_drop_more, at_drop_all}
-use Rattle.std.proofs.lemmas.Bool.{cases_lt, false≢true}
-use Rattle.std.proofs.lemmas.Bool.Decides.{same_from_decides}
-use Rattle.std.specs.Option.{option_map}
+use Rattle.std.proofs.lemmas.List.Quantifiers.{position-Some}
+use Rattle.std.proofs.lemmas.List.Sums.{position_or_len_is, fails_before_first}
+use Rattle.std.proofs.lemmas.Bool.{cases_lt, lt-ltb, le-ltb, false≢true}
+use Rattle.std.proofs.lemmas.List.Recursion.{is_position_or_len}
+use Rattle.std.specs.Prelude.{nat_lt, MatchOption}
+use Rattle.std.proofs.lemmas.List.{length-map}
+use Rattle.std.specs.List.{position, position_or_len}
 use Rattle.std.specs.Str.{bytes_eq}
 use Rattle.entries.specs.Lookup.{place_of, Nowhere, First, LookupFinds}
 
--- the place that is found from place i on
-abbrev pub from : ℕ → Option ℕ → Option ℕ
-from i o = option_map (λ k. i + k) o
+abbrev pub is : List ℕ → List ℕ → Bool
+is name x = bytes_eq x name
 
-from_zero : (o : Option ℕ) → from 0 o ≡ o
-from_zero None = refl
-from_zero (Some k) = let e : 0 + k ≡ k = omega arith in ap Some e
+-- a name that is not the one asked for
+other : (name x : List ℕ) → bytes_eq x name ≡ false → x ≡ name → ⊥
+other name x e same = false≢true (sym e ∙ (bytes_eq-Decides x name).1 same)
 
-from_more : (i : ℕ) (o : Option ℕ) → from i (option_map suc o) ≡ from (i + 1) o
-from_more i None = refl
-from_more i (Some k) = let e : i + suc k ≡ (i + 1) + k = omega arith in ap Some e
-
--- a loop over entries of any kind: `key` is the name of one
-module _ {E : Type 0} (key : E → List ℕ) (name : List ℕ) (entries : List E) where
-  abbrev pub ahead : ℕ → Option ℕ
-  ahead i = from i (place_of name (map key (drop i entries)))
-
-  abbrev whole : Option ℕ
-  whole = place_of name (map key entries)
-
-  pub search_starts : ahead 0 ≡ whole
-  search_starts = from_zero whole
-
-  module _ (i : ℕ) (e : E) (l : i < length entries) (is : e ≡ get_or entries i e) where
-    here : ahead i ≡ from i (cond (bytes_eq (key e) name) (Some 0) (option_map suc (place_of name (map key (drop (i + 1) entries)))))
-    here = at_drop_more (λ l. from i (place_of name (map key l))) entries i e l ∙ ap (λ x. from i (place_of name (key x ∷ map key (drop (i + 1) entries)))) (sym is)
-
-    here_by : (b : Bool) → Decides b (key e ≡ name) → ahead i ≡ from i (cond b (Some 0) (option_map suc (place_of name (map key (drop (i + 1) entries)))))
-    here_by b d =
-        here ∙ ap (λ t. from i (cond t (Some 0) (option_map suc (place_of name (map key (drop (i + 1) entries)))))) (same_from_decides (bytes_eq (key e) name) b (bytes_eq-Decides (key e) name) d)
-
-    pub search_found : Decides true (key e ≡ name) → ahead i ≡ whole → Some i ≡ whole
-    search_found d inv = let z : i + 0 ≡ i = omega arith in sym (here_by true d ∙ ap Some z) ∙ inv
-
-    pub search_passes : Decides false (key e ≡ name) → ahead i ≡ whole → ahead (i + 1) ≡ whole
-    search_passes d inv = sym (here_by false d ∙ from_more i (place_of name (map key (drop (i + 1) entries)))) ∙ inv
-
-  pub search_ends : (i : ℕ) → length entries ≤ i → ahead i ≡ whole → None ≡ whole
-  search_ends i l inv = sym (at_drop_all (λ l. from i (place_of name (map key l))) entries i l) ∙ inv
-
--- what the lookup finds
-abbrev Judged : List ℕ → List (List ℕ) → Option ℕ → Type 0
-Judged name names o = MatchOption o (Nowhere name names) (First name names)
-
-first_later : (name x : List ℕ) (xs : List (List ℕ)) (o : Option ℕ) → (x ≡ name → ⊥) → Judged name xs o → Judged name (x ∷ xs) (option_map suc o)
-first_later name x xs None other h = at where
-  at : Nowhere name (x ∷ xs)
-  at zero l e = other e
-  at (suc k) l e = h k (omega arith) e
-first_later name x xs (Some i) other h = record { within = omega (arith, h.within); here = h.here; before = before } where
-  before : (k : ℕ) → k < suc i → get_or (x ∷ xs) k [] ≡ name → ⊥
-  before zero l e = other e
-  before (suc k) l e = h.before k (omega arith) e
-
-judged_by : (name x : List ℕ) (xs : List (List ℕ)) (o : Option ℕ) (b : Bool) → Decides b (x ≡ name) → Judged name xs o → Judged name (x ∷ xs) (cond b (Some 0) (option_map suc o))
-judged_by name x xs o true d h = record { within = omega arith; here = d.0 refl; before = λ k l e. omega arith }
-judged_by name x xs o false d h = first_later name x xs o (λ e. false≢true (d.1 e)) h
-
-judged : (name : List ℕ) (names : List (List ℕ)) → Judged name names (place_of name names)
-judged name [] = λ k l e. omega arith
-judged name (x ∷ xs) = judged_by name x xs (place_of name xs) (bytes_eq x name) (bytes_eq-Decides x name) (judged name xs)
+differs : (name x : List ℕ) → (x ≡ name → ⊥) → (b : Bool) → bytes_eq x name ≡ b → bytes_eq x name ≡ false
+differs name x not false e = e
+differs name x not true e = absurd (not ((bytes_eq-Decides x name).0 e))
 
 pub found_first : (name : List ℕ) (names : List (List ℕ)) (i : ℕ) → place_of name names ≡ Some i → First name names i
-found_first name names i e = subst (Judged name names) e (judged name names)
+found_first name names i e =
+    let (within, here, before) = position-Some (is name) names i [] e in
+    record {
+      within = within;
+      here = (bytes_eq-Decides (get_or names i []) name).0 here;
+      before = λ k l. other name (get_or names k []) (before k l);
+    }
+
+-- an index of its own list is found, and no other
+some_within : (n m : ℕ) → n < m → cond (nat_lt n m) (Some n) None ≡ Some n
+some_within n m l = ap (λ b. cond b (Some n) None) (lt-ltb n m l)
+
+none_at_end : (m : ℕ) → cond (nat_lt m m) (Some m) None ≡ None
+none_at_end m = elim (cases_lt m m) [ inl l ↦ absurd (omega arith) | inr l ↦ ap (λ b. cond b (Some m) None) (le-ltb m m l) ]
+
+none_past : (n m : ℕ) → cond (nat_lt n m) (Some n) None ≡ None → m ≤ n
+none_past n m e = elim (cases_lt n m) [ inl l ↦ absurd (some≢none (sym (some_within n m l) ∙ e)) | inr l ↦ l ] where
+  some≢none : {k : ℕ} → ◌≡◌ {A = Option ℕ} (Some k) None → ⊥
+  some≢none e = let z : ◌≡◌ {A = ℕ} 0 1 = cc in omega arith
 
 pub found_none : (name : List ℕ) (names : List (List ℕ)) → place_of name names ≡ None → Nowhere name names
-found_none name names e = subst (Judged name names) e (judged name names)
+found_none name names e k l =
+    let past : length names ≤ position_or_len (is name) names = none_past (position_or_len (is name) names) (length names) e in
+    let early : k < position_or_len (is name) names = omega arith in
+    other name (get_or names k []) (fails_before_first (is name) names k [] early)
 
-settled_at : (name : List ℕ) (names : List (List ℕ)) (i : ℕ) → First name names i → (o : Option ℕ) → Judged name names o → o ≡ Some i
-settled_at name names i f None h = absurd (h i f.within f.here)
-settled_at name names i f (Some k) h =
-    elim (cases_lt k i) [
-      | inl less ↦ absurd (f.before k less h.here)
-      | inr more ↦ elim (cases_lt i k) [
-        | inl less ↦ absurd (h.before i less f.here)
-        | inr same ↦ let e : k ≡ i = omega arith in ap Some e
-      ]
-    ]
+-- the first index that passes is i
+at_index : (name : List ℕ) (names : List (List ℕ)) (i : ℕ) → i ≤ length names → ((k : ℕ) → k < i → get_or names k [] ≡ name → ⊥) → (i < length names → get_or names i [] ≡ name) → position_or_len (is name) names ≡ i
+at_index name names i l before here =
+    position_or_len_is (is name) names i [] l (λ k m. differs name _ (before k m) _ refl) (λ m. (bytes_eq-Decides (get_or names i []) name).1 (here m))
 
 pub first_place : (name : List ℕ) (names : List (List ℕ)) (i : ℕ) → First name names i → place_of name names ≡ Some i
-first_place name names i f = settled_at name names i f (place_of name names) (judged name names)
-
-missing_at : (name : List ℕ) (names : List (List ℕ)) → Nowhere name names → (o : Option ℕ) → Judged name names o → o ≡ None
-missing_at name names none None h = refl
-missing_at name names none (Some k) h = absurd (none k h.within h.here)
+first_place name names i f =
+    let at = at_index name names i (omega (arith, f.within)) f.before (λ l. f.here) in
+    ap (λ n. cond (nat_lt n (length names)) (Some n) None) at ∙ some_within i (length names) f.within
 
 pub no_place : (name : List ℕ) (names : List (List ℕ)) → Nowhere name names → place_of name names ≡ None
-no_place name names none = missing_at name names none (place_of name names) (judged name names)
+no_place name names none =
+    let at = at_index name names (length names) (omega arith) none (λ l. absurd (omega arith)) in
+    ap (λ n. cond (nat_lt n (length names)) (Some n) None) at ∙ none_at_end (length names)
+
+turned : (b : Bool) (n : ℕ) → cond (not b) n 0 ≡ cond b 0 n
+turned true n = refl
+turned false n = refl
+
+-- looked up among entries of any kind: `key` is the name of one
+position_at : {E : Type 0} (key : E → List ℕ) (name : List ℕ) (entries : List E) → position_or_len (λ e. is name (key e)) entries ≡ position_or_len (is name) (map key entries)
+position_at key name entries = sym (is_position_or_len (λ l. position_or_len (is name) (map key l)) (λ e. is name (key e)) refl (λ x xs. turned (is name (key x)) (1 + position_or_len (is name) (map key xs))) entries)
+
+pub place_at : {E : Type 0} (key : E → List ℕ) (name : List ℕ) (entries : List E) → position (λ e. is name (key e)) entries ≡ place_of name (map key entries)
+place_at key name entries =
+    ap (λ n. cond (nat_lt n (length entries)) (Some n) None) (position_at key name entries)
+    ∙ ap (λ m. cond (nat_lt (position_or_len (is name) (map key entries)) m) (Some (position_or_len (is name) (map key entries))) None) (sym (length-map entries key))
+
+judged : (name : List ℕ) (names : List (List ℕ)) → (o : Option ℕ) → place_of name names ≡ o → MatchOption o (Nowhere name names) (First name names)
+judged name names None e = found_none name names e
+judged name names (Some i) e = found_first name names i e
 
 pub lookup_finds : LookupFinds
-lookup_finds = record { judged = judged; settled = first_place; missing = no_place }
+lookup_finds = record { judged = λ name names. judged name names _ refl; settled = first_place; missing = no_place }

@@ -1,12 +1,11 @@
 -- The lookup of a name among names, by number.
-use Rattle.std.specs.Prelude.{◌≡◌, ℕ, suc, ◌<◌, cond, List, [], ◌∷◌, length, Some, None, Option, MatchOption, ◌≢◌, slice_index_or}
-use Rattle.std.specs.Option.{option_map}
+use Rattle.std.specs.Prelude.{◌≡◌, ℕ, ◌<◌, List, [], length, Some, None, Option, MatchOption, ◌≢◌, slice_index_or}
+use Rattle.std.specs.List.{position}
 use Rattle.std.specs.Str.{bytes_eq}
 
--- the place of the name, or none where no place has it
+-- the first place of the name, or none where no place has it
 abbrev pub place_of : List ℕ → List (List ℕ) → Option ℕ
-place_of name [] = None
-place_of name (x ∷ xs) = let later = option_map suc (place_of name xs) in cond (bytes_eq x name) (Some 0) later
+place_of name names = position (λ x. bytes_eq x name) names
 
 -- no place has the name
 abbrev pub Nowhere : List ℕ → List (List ℕ) → Type 0

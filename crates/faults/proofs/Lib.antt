@@ -1,2 +1,3 @@
-mod Turns
+mod Ends
+mod Parts
 mod Found

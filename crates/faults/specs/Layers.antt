@@ -1,4 +1,5 @@
--- The layer of each refusal of a text.
+-- The layer of each refusal of a text, and its word.
+use Rattle.std.specs.Prelude.{ℕ, List, codes}
 use Rattle.rights.specs.declared.refusal.Refusal.{Refusal}
 use Rattle.rights.specs.declared.refusal.Refusal.TheVariants.{TextTooLong, BadByte, LineBroken, TooDeep, WordTooLong, WrongForm, NoSuchName, Repeated, EmptyNeed, OutOfRange, SameSubject, LimitReached, NotPermitted, NotOwner, NotHeld, TooShort}
 use Rattle.faults.specs.declared.fault.Layer.{Layer}
@@ -21,3 +22,9 @@ layer_of NotPermitted = Meaning
 layer_of NotOwner = Meaning
 layer_of NotHeld = Meaning
 layer_of TooShort = Meaning
+
+-- what is printed of a layer
+abbrev pub word_of : Layer → List ℕ
+word_of Words = codes "words"
+word_of Forms = codes "forms"
+word_of Meaning = codes "meaning"

@@ -1,5 +1,8 @@
 // Faults of texts: why a text is refused, and where.
+ghost use Rattle.std.specs.Prelude.{Some};
+
 use rights::Refusal;
+use std::fmt;
 
 // Which of the two files a fault is in.
 #[derive(Clone, Copy, PartialEq, Eq, Debug)]
@@ -17,6 +20,20 @@ pub enum Layer {
     Forms,
     // names, and what a declaration asks
     Meaning,
+}
+
+impl fmt::Display for Layer {
+    ghost use Rattle.faults.specs.Layers.{word_of};
+
+    ghost output = { λ layer. Some (word_of layer) };
+
+    fn fmt<W: fmt::Write>(&self, f: &mut fmt::Formatter<W>) -> fmt::Result {
+        f.write_str(match self {
+            Layer::Words => "words",
+            Layer::Forms => "forms",
+            Layer::Meaning => "meaning",
+        })
+    }
 }
 
 // The first fault of a text. Lines count from 1; a text that is too long has its fault in line 0.

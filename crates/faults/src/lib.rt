@@ -38,12 +38,7 @@ impl Fault {
 fn first_line(text: &[u8]) -> &[u8]
     ensures { result.now ≡ first_line text.now }
 {
-    for (i, byte) in text.iter().enumerate() {
-        if *byte as char == '\n' {
-            return &text[..i];
-        }
-    }
-    text
+    text.split(|byte| *byte == b'\n').next().unwrap_or(text)
 }
 
 // The text from a line on. There is no line 0; from a line that the text does not have, the empty part at its end.
@@ -51,19 +46,9 @@ fn from_line(text: &[u8], line: usize) -> &[u8]
     ensures within { length result.now ≤ length text.now }
     ensures rest { result.now ≡ from_line line text.now }
 {
-    let mut left = line;
-    for (i, byte) in text.iter().enumerate() {
-        if left == 0 {
-            break;
-        }
-        if left == 1 {
-            return &text[i..];
-        }
-        if *byte as char == '\n' {
-            left -= 1;
-        }
-    }
-    &text[text.len()..]
+    text.splitn(line, |byte| *byte == b'\n')
+        .nth(line.saturating_sub(1))
+        .unwrap_or(&text[text.len()..])
 }
 
 // The faulty line, as a part of the text that the fault names: where it begins, and its bytes without the line end. A

@@ -1,13 +1,13 @@
 // The copy-flag book: a counted flag passes on the access and lower flags, and the unlimited flag all of them and itself.
-ghost use Rattle.std.specs.Prelude.{◌≡◌, ◌<◌, ◌≤◌};
+ghost use Rattle.std.specs.Prelude.{◌≡◌, ◌<◌};
 ghost use Rattle.rights.specs.Limits.{max_rights};
-ghost use Rattle.rights.specs.Refusals.{on_ok};
-ghost use Rattle.flags.specs.Flags.{most_flags, admitted, flag_gives, counted_give, unlimited_gives, flags_give, fresh_right, flags_meaning};
+ghost use Rattle.flags.specs.Flags.{admitted, flag_gives, counted_give, unlimited_gives, flags_give, fresh_right, flags_meaning};
 ghost use Rattle.flags.specs.Passing.{flags_lawful};
 
 use crate::settings::{FreshFlag, Settings};
 use books::RuleBook;
 use rights::{ObjectType, Refusal, Right, RightSet, SubjectType};
+use std::marker::Model;
 
 const ACCESS: usize = 0;
 
@@ -19,21 +19,34 @@ const MOST_FLAGS: usize = 30;
 #[derive(Clone, Copy)]
 pub struct CopyFlagBook {
     settings: Settings,
-    ghost some: { 1 ≤ settings.flags },
-    ghost few: { settings.flags ≤ most_flags },
+}
+
+// A book is its settings, which have a counted flag and not too many.
+impl Model for CopyFlagBook {
+    ghost use Rattle.std.specs.Prelude.{◌≤◌};
+    ghost use Rattle.flags.specs.declared.settings.Settings.{Settings};
+    ghost use Rattle.flags.specs.Flags.{most_flags};
+
+    ghost Value = { Settings };
+
+    ghost view = { λ b. b.settings };
+
+    ghost invariant = { λ b. (1 ≤ b.settings.flags) × (b.settings.flags ≤ most_flags) };
+
+    ghost inverse = { λ s. record { settings = s } };
 }
 
 // The right of this number.
 fn numbered(number: usize) -> Right
     requires { number < max_rights }
-    ensures { result.number ≡ number }
+    ensures { result ≡ number }
 {
     Right::new(number).unwrap()
 }
 
 // What a counted flag gives, if it is held.
 fn flag_gives(flag: Right, held: RightSet) -> RightSet
-    ensures { result.bits ≡ flag_gives flag.number held.bits }
+    ensures { result ≡ flag_gives flag held }
 {
     if held.contains(flag) {
         RightSet::below(flag)
@@ -44,7 +57,7 @@ fn flag_gives(flag: Right, held: RightSet) -> RightSet
 
 impl CopyFlagBook {
     pub fn new(settings: Settings) -> Result<CopyFlagBook, Refusal>
-        ensures { on_ok (λ b. b.settings) result ≡ admitted settings }
+        ensures { result ≡ admitted settings }
     {
         if settings.flags < 1 || settings.flags > MOST_FLAGS {
             return Err(Refusal::OutOfRange);
@@ -53,10 +66,12 @@ impl CopyFlagBook {
     }
 
     // What the counted flags among the held rights give.
+    #[tactic(auto, unfolding(crate::specs::Flags::counted_give))]
     fn counted_give(&self, held: RightSet) -> RightSet
-        ensures { result.bits ≡ counted_give self.now.settings.flags held.bits }
+        ensures { result ≡ counted_give self.now.flags held }
     {
         let mut gives = RightSet::empty();
+        // A loop, since no lemma of the library says what a fold takes from `1..=n`.
         for k in 1..=self.settings.flags {
             gives = gives.union(flag_gives(numbered(k), held));
         }
@@ -65,7 +80,7 @@ impl CopyFlagBook {
 
     // What the unlimited flag gives, if it is held.
     fn unlimited_gives(&self, held: RightSet) -> RightSet
-        ensures { result.bits ≡ unlimited_gives self.now.settings.flags held.bits }
+        ensures { result ≡ unlimited_gives self.now.flags held }
     {
         let unlimited = numbered(UNLIMITED_FLAG);
         if held.contains(unlimited) {
@@ -77,14 +92,14 @@ impl CopyFlagBook {
 
     // What all flags among the held rights give.
     fn flags_give(&self, held: RightSet) -> RightSet
-        ensures { result.bits ≡ flags_give self.now.settings.flags held.bits }
+        ensures { result ≡ flags_give self.now.flags held }
     {
         self.counted_give(held).union(self.unlimited_gives(held))
     }
 
     // The flag that a creator gets.
     fn fresh_right(&self) -> Right
-        ensures { result.number ≡ fresh_right self.now.settings }
+        ensures { result ≡ fresh_right self.now }
     {
         match self.settings.fresh {
             FreshFlag::Counted => numbered(self.settings.flags),
@@ -94,9 +109,9 @@ impl CopyFlagBook {
 }
 
 impl RuleBook for CopyFlagBook {
-    ghost meaning = { λ b. flags_meaning b.settings };
+    ghost meaning = { flags_meaning };
 
-    ghost lawful = { λ book. flags_lawful book.settings };
+    ghost lawful = { flags_lawful };
 
     fn may_add(&self, _subject: SubjectType, object: ObjectType, held: RightSet) -> RightSet {
         let access = numbered(ACCESS);

@@ -1,2 +1,3 @@
-mod Next
-mod Steps
+pub mod Heads
+pub mod Next
+pub mod Steps

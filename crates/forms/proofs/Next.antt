@@ -1,103 +1,93 @@
--- The next item of a form: what a taken word, a taken list or the end comes to.
-use Rattle.std.proofs.Common.{◌≡◌, ℕ, ◌-◌, ◌<◌, ◌≤◌, min, true, false, List, [], ◌∷◌, ◌++◌, length, take, drop, Some, None, Option, sym, refl, ap, ◌∙◌, inl, inr, append_assoc, append-nil, arith, length-drop}
-use Rattle.std.proofs.lemmas.List.{take_all, drop_all}
+-- Words taken one by one, and a part of a line that is cut at the line's end.
+use Rattle.std.proofs.Common.{◌≡◌, ℕ, suc, ◌+◌, ◌-◌, ◌<◌, ◌≤◌, min, List, [], ◌∷◌, ◌++◌, length, get_or, map, take, drop, Some, None, Option, Vec, sym, refl, ap, ◌∙◌, inl, inr, append_assoc, append-nil, add-one, arith, length-drop, drop-cons}
+use Rattle.std.proofs.lemmas.List.{take_all, drop_all, map_push}
 use Rattle.std.proofs.lemmas.Bool.{cases_lt}
 use Rattle.std.specs.Option.{option_map}
-use Rattle.grammar.specs.Items.{Items}
-use Rattle.grammar.specs.Entries.{Item, word, list, entries}
-use Rattle.words.specs.Taking.{next_word, next_list, is_none_left}
-use Rattle.meaning.specs.Forms.{Form, head_of, form_with, form_of, the_words, word_then, if_words, names_then, at_end}
+use Rattle.std.specs.declared.alloc.Global.{Global}
+use Rattle.grammar.specs.Entries as entries
+use Rattle.grammar.specs.Entries.{entries}
+use Rattle.words.specs.Tree.{shape, item_of}
+use Rattle.words.specs.declared.tree.Word.{Word}
+use Rattle.words.specs.declared.tree.Item.{Item}
+use Rattle.words.specs.declared.tree.Item.TheVariants as one
+use Rattle.words.proofs.Shapes.{item_of_list, entries_shape}
+use Rattle.meaning.specs.Forms.{head_of, form_with, form_of, the_words}
+use Rattle.forms.specs.Views.{name_at, names_at, as_word, as_names}
 
--- what was found, taken apart
-abbrev found_word : Option (List ℕ × List Item) → List ℕ
-found_word None = []
-found_word (Some p) = p.0
-
-abbrev found_list : Items → Option (Items × List Item) → Items
-found_list i None = i
-found_list i (Some p) = p.0
-
-abbrev rest_of : {A : Type 0} → Option (A × List Item) → List Item
-rest_of None = []
-rest_of (Some p) = p.1
-
-abbrev WordMore : Type 0
-WordMore = List ℕ → List Item → Option Form
-
-abbrev NamesMore : Type 0
-NamesMore = List (List ℕ) → List Item → Option Form
-
-pub head_missing : (xs : List Item) → next_word xs ≡ None → form_of xs ≡ None
-head_missing [] e = refl
-head_missing (word w ∷ xs) e = absurd (let z : ◌≡◌ {A = ℕ} 0 1 = cc in omega arith)
-head_missing (list i ∷ xs) e = refl
-
-pub head_comes : (xs : List Item) (w : List ℕ) (ys : List Item) → next_word xs ≡ Some (w, ys) → form_of xs ≡ form_with (head_of w) ys
-head_comes [] w ys e = absurd (let z : ◌≡◌ {A = ℕ} 0 1 = cc in omega arith)
-head_comes (word v ∷ xs) w ys e = ap (λ o. form_with (head_of (found_word o)) (rest_of o)) e
-head_comes (list i ∷ xs) w ys e = absurd (let z : ◌≡◌ {A = ℕ} 0 1 = cc in omega arith)
-
-pub word_missing : (xs : List Item) → next_word xs ≡ None → (more : WordMore) → word_then xs more ≡ None
-word_missing [] e more = refl
-word_missing (word w ∷ xs) e more = absurd (let z : ◌≡◌ {A = ℕ} 0 1 = cc in omega arith)
-word_missing (list i ∷ xs) e more = refl
-
-pub word_comes : (xs : List Item) (w : List ℕ) (ys : List Item) → next_word xs ≡ Some (w, ys) → (more : WordMore) → word_then xs more ≡ more w ys
-word_comes [] w ys e more = absurd (let z : ◌≡◌ {A = ℕ} 0 1 = cc in omega arith)
-word_comes (word v ∷ xs) w ys e more = ap (λ o. more (found_word o) (rest_of o)) e
-word_comes (list i ∷ xs) w ys e more = absurd (let z : ◌≡◌ {A = ℕ} 0 1 = cc in omega arith)
-
-pub list_missing : (xs : List Item) → next_list xs ≡ None → (more : NamesMore) → names_then xs more ≡ None
-list_missing [] e more = refl
-list_missing (word w ∷ xs) e more = refl
-list_missing (list i ∷ xs) e more = absurd (let z : ◌≡◌ {A = ℕ} 0 1 = cc in omega arith)
-
-pub list_comes : (xs : List Item) (i : Items) (ys : List Item) → next_list xs ≡ Some (i, ys) → (more : NamesMore)
-    → names_then xs more ≡ if_words (the_words (entries i)) (λ ws. more ws ys)
-list_comes [] i ys e more = absurd (let z : ◌≡◌ {A = ℕ} 0 1 = cc in omega arith)
-list_comes (word w ∷ xs) i ys e more = absurd (let z : ◌≡◌ {A = ℕ} 0 1 = cc in omega arith)
-list_comes (list j ∷ xs) i ys e more =
-    ap (λ o. if_words (the_words (entries (found_list j o))) (λ ws. more ws (rest_of o))) e
-
-pub ends_here : (xs : List Item) → true ≡ is_none_left xs → (f : Form) → at_end f xs ≡ Some f
-ends_here [] e f = refl
-ends_here (x ∷ xs) e f = absurd (let z : ◌≡◌ {A = ℕ} 0 1 = cc in omega arith)
-
-pub goes_on : (xs : List Item) → false ≡ is_none_left xs → (f : Form) → at_end f xs ≡ None
-goes_on [] e f = absurd (let z : ◌≡◌ {A = ℕ} 0 1 = cc in omega arith)
-goes_on (x ∷ xs) e f = refl
-
--- words taken one by one
+-- words before others
 abbrev pub with_more : List (List ℕ) → Option (List (List ℕ)) → Option (List (List ℕ))
 with_more ws o = option_map (λ more. ws ++ more) o
 
-pub none_more : (o : Option (List (List ℕ))) → with_more [] o ≡ o
+none_more : (o : Option (List (List ℕ))) → with_more [] o ≡ o
 none_more None = refl
 none_more (Some ws) = refl
 
-one_more : (ws : List (List ℕ)) (w : List ℕ) (o : Option (List (List ℕ))) → with_more ws (option_map (λ more. w ∷ more) o) ≡ with_more (ws ++ (w ∷ [])) o
+one_more : (ws : List (List ℕ)) (w : List ℕ) (o : Option (List (List ℕ))) → with_more (ws ++ (w ∷ [])) o ≡ with_more ws (option_map (λ more. w ∷ more) o)
 one_more ws w None = refl
-one_more ws w (Some more) = ap Some (sym (append_assoc ws (w ∷ []) more))
+one_more ws w (Some more) = ap Some (append_assoc ws (w ∷ []) more)
 
-pub word_taken : (xs : List Item) (w : List ℕ) (ys : List Item) (ws : List (List ℕ)) → next_word xs ≡ Some (w, ys) → with_more ws (the_words xs) ≡ with_more (ws ++ (w ∷ [])) (the_words ys)
-word_taken [] w ys ws e = absurd (let z : ◌≡◌ {A = ℕ} 0 1 = cc in omega arith)
-word_taken (word v ∷ xs) w ys ws e =
-    ap (λ o. with_more ws (option_map (λ more. found_word o ∷ more) (the_words (rest_of o)))) e ∙ one_more ws w (the_words ys)
-word_taken (list i ∷ xs) w ys ws e = absurd (let z : ◌≡◌ {A = ℕ} 0 1 = cc in omega arith)
+word_more : (y : entries.Item) (ys : List entries.Item) (w : List ℕ) → as_word y ≡ Some w → the_words (y ∷ ys) ≡ option_map (λ ws. w ∷ ws) (the_words ys)
+word_more (entries.word v) ys w e = let same : v ≡ w = cc in ap (λ u. option_map (λ ws. u ∷ ws) (the_words ys)) same
+word_more (entries.list i) ys w e = cc
 
-pub shorter : (xs : List Item) (w : List ℕ) (ys : List Item) → next_word xs ≡ Some (w, ys) → length ys < length xs
-shorter [] w ys e = absurd (let z : ◌≡◌ {A = ℕ} 0 1 = cc in omega arith)
-shorter (word v ∷ xs) w ys e = omega (arith, ap (λ o. length (rest_of o)) e)
-shorter (list i ∷ xs) w ys e = absurd (let z : ◌≡◌ {A = ℕ} 0 1 = cc in omega arith)
+no_word : (y : entries.Item) (ys : List entries.Item) → as_word y ≡ None → the_words (y ∷ ys) ≡ None
+no_word (entries.word v) ys e = cc
+no_word (entries.list i) ys e = refl
 
-pub stuck_at : (xs : List Item) (ws : List (List ℕ)) → false ≡ is_none_left xs → next_word xs ≡ None → with_more ws (the_words xs) ≡ None
-stuck_at [] ws e n = absurd (let z : ◌≡◌ {A = ℕ} 0 1 = cc in omega arith)
-stuck_at (word w ∷ xs) ws e n = absurd (let z : ◌≡◌ {A = ℕ} 0 1 = cc in omega arith)
-stuck_at (list i ∷ xs) ws e n = refl
+-- a list of items, as a list of words
+pub names_of : (line : List ℕ) (x : Item) (v : Vec Item Global) (xs : List Item) → x ≡ one.List v → xs ≡ v.items
+    → as_names (item_of line x) ≡ the_words (map (item_of line) xs)
+names_of line x v xs e same =
+    ap (λ y. as_names (item_of line y)) e ∙ ap as_names (item_of_list line v)
+    ∙ ap the_words (entries_shape line v.items ∙ ap (map (item_of line)) (sym same))
 
-pub all_taken : (xs : List Item) (ws : List (List ℕ)) → true ≡ is_none_left xs → with_more ws (the_words xs) ≡ Some ws
-all_taken [] ws e = ap Some (append-nil ws)
-all_taken (x ∷ xs) ws e = absurd (let z : ◌≡◌ {A = ℕ} 0 1 = cc in omega arith)
+module _ (line : List ℕ) (items : List Item) where
+  abbrev pub WordsSoFar : List Word → ℕ → Type 0
+  WordsSoFar ws i = with_more (names_at line ws) (the_words (map (item_of line) (drop i items))) ≡ the_words (map (item_of line) items)
+
+  pub none_so_far : (ws : List Word) → ws ≡ [] → WordsSoFar ws 0
+  none_so_far ws e = ap (λ l. with_more (names_at line l) (the_words (map (item_of line) items))) e ∙ none_more (the_words (map (item_of line) items))
+
+  next_is : (i : ℕ) (x : Item) → i < length items → x ≡ get_or items i x
+      → map (item_of line) (drop i items) ≡ item_of line x ∷ map (item_of line) (drop (i + 1) items)
+  next_is i x h is = rw (add-one, drop-cons items i x h) (ap (λ z. item_of line z ∷ map (item_of line) (drop (suc i) items)) (sym is))
+
+  pub word_stops : (ws : List Word) (i : ℕ) (x : Item) → i < length items → x ≡ get_or items i x → WordsSoFar ws i
+      → as_word (item_of line x) ≡ None → the_words (map (item_of line) items) ≡ None
+  word_stops ws i x h is so none =
+      sym so ∙ ap (λ l. with_more (names_at line ws) (the_words l)) (next_is i x h is)
+      ∙ ap (with_more (names_at line ws)) (no_word (item_of line x) (map (item_of line) (drop (i + 1) items)) none)
+
+  pub one_more_word : (ws vs : List Word) (i : ℕ) (x : Item) (w : Word) → i < length items → x ≡ get_or items i x → WordsSoFar ws i
+      → as_word (item_of line x) ≡ Some (name_at line w) → vs ≡ ws ++ (w ∷ []) → WordsSoFar vs (i + 1)
+  one_more_word ws vs i x w h is so some pushed =
+      let rest = map (item_of line) (drop (i + 1) items) in
+      ap (λ l. with_more l (the_words rest)) (ap (names_at line) pushed ∙ map_push (name_at line) ws w)
+      ∙ one_more (names_at line ws) (name_at line w) (the_words rest)
+      ∙ ap (with_more (names_at line ws)) (sym (ap the_words (next_is i x h is) ∙ word_more (item_of line x) rest (name_at line w) some))
+      ∙ so
+
+  pub no_more_words : (ws : List Word) (i : ℕ) → length items ≤ i → WordsSoFar ws i → the_words (map (item_of line) items) ≡ Some (names_at line ws)
+  no_more_words ws i h so =
+      sym so ∙ ap (λ l. with_more (names_at line ws) (the_words (map (item_of line) l))) (drop_all i items h) ∙ ap Some (append-nil (names_at line ws))
+
+-- the items of a line after the first
+abbrev pub after_first : List ℕ → List Item → List entries.Item
+after_first line items = map (item_of line) (take (length items - 1) (drop 1 items))
+
+pub first_is : (line : List ℕ) (items : List Item) (x : Item) → 1 ≤ length items → x ≡ get_or items 0 x
+    → entries (shape line items) ≡ item_of line x ∷ after_first line items
+first_is line items x some is =
+    let all = take_all (length items - 1) (drop 1 items) (simp length-drop (omega arith)) in
+    entries_shape line items ∙ next_is line items 0 x some is ∙ ap (λ l. item_of line x ∷ map (item_of line) l) (sym all)
+
+pub headless : (y : entries.Item) (ys : List entries.Item) → as_word y ≡ None → form_of (y ∷ ys) ≡ None
+headless (entries.word w) ys e = cc
+headless (entries.list i) ys e = refl
+
+pub headed : (y : entries.Item) (ys : List entries.Item) (w : List ℕ) → as_word y ≡ Some w → form_of (y ∷ ys) ≡ form_with (head_of w) ys
+headed (entries.word v) ys w e = let same : v ≡ w = cc in ap (λ u. form_with (head_of u) ys) same
+headed (entries.list i) ys w e = cc
 
 -- a part of a line that is cut at the line's end
 module _ (line : List ℕ) where

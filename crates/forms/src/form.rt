@@ -27,17 +27,3 @@ pub enum Form {
     },
     Note,
 }
-
-// What the first word of a form says of it.
-#[derive(Clone, Copy)]
-pub enum Head {
-    Right,
-    SubjectType,
-    ObjectType,
-    Owner,
-    Create,
-    Transform,
-    Grant,
-    Note,
-    Unknown,
-}

@@ -2,6 +2,7 @@
 #![tactic(auto)]
 
 pub mod form;
+mod head;
 pub mod read;
 
 pub use form::Form;

@@ -1,17 +1,19 @@
-// Reading a form, from the left: its head, and then what follows it.
-ghost use Rattle.std.specs.Prelude.{◌≡◌, ℕ, List};
+// Reading a form: its head, and then what follows it.
+ghost use Rattle.std.specs.Prelude.{◌≡◌, ◌≢◌, ℕ, List, length, map, MatchResult};
+ghost use Rattle.rights.specs.declared.refusal.Refusal.TheVariants.{WrongForm};
+ghost use Rattle.words.specs.declared.stop.Failed.TheVariants.{Because};
 ghost use Rattle.grammar.specs.Entries.{entries};
-ghost use Rattle.words.specs.Tree.{shape};
-ghost use Rattle.words.specs.Taking.{ahead};
-ghost use Rattle.std.specs.Str.{bytes_eq};
+ghost use Rattle.words.specs.Tree.{shape, item_of};
 ghost use Rattle.meaning.specs.Forms as forms;
-ghost use Rattle.meaning.specs.Forms.{head_of, form_of, form_with, the_words, word_then, at_end, create_head, itrans_head, grant_head};
-ghost use Rattle.forms.specs.Views.{name_at, names_at, form_at, head_is, TakenAs, WordNext, NamesNext, NothingNext};
+ghost use Rattle.meaning.specs.Forms.{form_of, form_with, word_then, at_end, create_head, itrans_head, grant_head};
+ghost use Rattle.forms.specs.Heads.{head_is};
+ghost use Rattle.forms.specs.Views.{name_at, names_at, as_word, as_names, form_at, TakenAs};
 
-use crate::form::{Form, Head};
+use crate::form::Form;
+use crate::head::Head;
 use rights::Refusal;
 use std::alloc::Global;
-use words::{Denial, Items, Parts, Word};
+use words::{Denial, Item, Word};
 
 // The bytes of a word of the line.
 pub fn word_bytes<'a>(line: &'a [u8], word: Word) -> &'a [u8]
@@ -22,158 +24,104 @@ pub fn word_bytes<'a>(line: &'a [u8], word: Word) -> &'a [u8]
     &line[from..upto]
 }
 
-fn is(bytes: &[u8], word: &[u8]) -> bool
-    ensures { result ≡ bytes_eq bytes.now word.now }
+// An item that has to be a word.
+fn word(item: &Item) -> Result<Word, Denial>
+    ensures { (line : List ℕ) → TakenAs (name_at line) (as_word (item_of line item.now)) result }
 {
-    bytes == word
-}
-
-fn head_of(bytes: &[u8]) -> Head
-    ensures { head_is result ≡ head_of bytes.now }
-{
-    if is(bytes, b"right") {
-        Head::Right
-    } else if is(bytes, b"subject-type") {
-        Head::SubjectType
-    } else if is(bytes, b"object-type") {
-        Head::ObjectType
-    } else if is(bytes, b"owner") {
-        Head::Owner
-    } else if is(bytes, b"create") {
-        Head::Create
-    } else if is(bytes, b"itrans") {
-        Head::Transform
-    } else if is(bytes, b"grant") {
-        Head::Grant
-    } else if is(bytes, b"note") {
-        Head::Note
-    } else {
-        Head::Unknown
+    match item {
+        Item::Word(word) => Ok(*word),
+        Item::List(_) => Err(Denial::Because(Refusal::WrongForm)),
     }
 }
 
-// The next item, which has to be a word.
-fn word(parts: &mut Parts) -> Result<Word, Denial>
-    ensures { WordNext parts.old parts.new result }
+// An item that has to be a list of words.
+fn names(heap: Global, item: &Item) -> Result<Vec<Word>, Denial>
+    ensures { (line : List ℕ) → TakenAs (λ ws. names_at line ws.items) (as_names (item_of line item.now)) result }
 {
-    match parts.word() {
-        Some(word) => Ok(word),
-        None => Err(Denial::Refused(Refusal::WrongForm)),
-    }
-}
-
-// The words of a list, which has to have nothing else.
-fn all_words(heap: Global, items: Items) -> Result<Vec<Word>, Denial>
-    ensures { (line : List ℕ) → TakenAs (λ ws. names_at line ws.items) (the_words (entries (shape line items))) result }
-{
-    let mut parts = Parts::of(heap, items)?;
+    let Item::List(items) = item else {
+        return Err(Denial::Because(Refusal::WrongForm));
+    };
     let mut words = Vec::new(heap);
-    while !parts.is_done() {
-        words.push(word(&mut parts)?)?;
+    for item in items {
+        words.push(word(item)?)?;
     }
     Ok(words)
 }
 
-// The next item, which has to be a list of words.
-fn names(heap: Global, parts: &mut Parts) -> Result<Vec<Word>, Denial>
-    ensures { NamesNext parts.old parts.new result }
+// What follows a head, if it is as many items as this.
+fn exactly<const N: usize>(rest: &[Item]) -> Result<&[Item; N], Denial>
+    ensures { MatchResult result (λ items. rest.now ≡ items.now) (λ e. (length rest.now ≢ N) × (e ≡ Because WrongForm)) }
 {
-    match parts.list() {
-        Some(items) => all_words(heap, items),
-        None => Err(Denial::Refused(Refusal::WrongForm)),
-    }
-}
-
-// Nothing may follow any more.
-fn end(parts: &Parts) -> Result<(), Denial>
-    ensures { NothingNext parts.now result }
-{
-    if parts.is_done() {
-        Ok(())
-    } else {
-        Err(Denial::Refused(Refusal::WrongForm))
-    }
+    rest.as_array().ok_or(Denial::Because(Refusal::WrongForm))
 }
 
 // One name, and nothing else.
-fn only_name(mut parts: Parts) -> Result<Word, Denial>
-    ensures { (line : List ℕ) (make : List ℕ → forms.Form) → TakenAs (λ w. make (name_at line w)) (word_then (ahead line parts) (λ n. at_end (make n))) result }
+fn only_name(rest: &[Item]) -> Result<Word, Denial>
+    ensures { (line : List ℕ) (make : List ℕ → forms.Form) → TakenAs (λ w. make (name_at line w)) (word_then (map (item_of line) rest.now) (λ n. at_end (make n))) result }
 {
-    let name = word(&mut parts)?;
-    end(&parts)?;
-    Ok(name)
+    let [name] = exactly::<1>(rest)?;
+    word(name)
 }
 
-fn create(heap: Global, mut parts: Parts) -> Result<Form, Denial>
-    ensures { (line : List ℕ) → TakenAs (form_at line) (form_with create_head (ahead line parts)) result }
+fn create(heap: Global, rest: &[Item]) -> Result<Form, Denial>
+    ensures { (line : List ℕ) → TakenAs (form_at line) (form_with create_head (map (item_of line) rest.now)) result }
 {
-    let creator = word(&mut parts)?;
-    let object = word(&mut parts)?;
-    let gets = names(heap, &mut parts)?;
-    end(&parts)?;
+    let [creator, object, gets] = exactly::<3>(rest)?;
     Ok(Form::Create {
-        creator,
-        object,
-        gets,
+        creator: word(creator)?,
+        object: word(object)?,
+        gets: names(heap, gets)?,
     })
 }
 
-fn transform(heap: Global, mut parts: Parts) -> Result<Form, Denial>
-    ensures { (line : List ℕ) → TakenAs (form_at line) (form_with itrans_head (ahead line parts)) result }
+fn transform(heap: Global, rest: &[Item]) -> Result<Form, Denial>
+    ensures { (line : List ℕ) → TakenAs (form_at line) (form_with itrans_head (map (item_of line) rest.now)) result }
 {
-    let subject = word(&mut parts)?;
-    let object = word(&mut parts)?;
-    let need = names(heap, &mut parts)?;
-    let gives = names(heap, &mut parts)?;
-    end(&parts)?;
+    let [subject, object, need, gives] = exactly::<4>(rest)?;
     Ok(Form::Transform {
-        subject,
-        object,
-        need,
-        gives,
+        subject: word(subject)?,
+        object: word(object)?,
+        need: names(heap, need)?,
+        gives: names(heap, gives)?,
     })
 }
 
-fn grant(heap: Global, mut parts: Parts) -> Result<Form, Denial>
-    ensures { (line : List ℕ) → TakenAs (form_at line) (form_with grant_head (ahead line parts)) result }
+fn grant(heap: Global, rest: &[Item]) -> Result<Form, Denial>
+    ensures { (line : List ℕ) → TakenAs (form_at line) (form_with grant_head (map (item_of line) rest.now)) result }
 {
-    let giver = word(&mut parts)?;
-    let receiver = word(&mut parts)?;
-    let object = word(&mut parts)?;
-    let need = names(heap, &mut parts)?;
-    let gives = names(heap, &mut parts)?;
-    end(&parts)?;
+    let [giver, receiver, object, need, gives] = exactly::<5>(rest)?;
     Ok(Form::Grant {
-        giver,
-        receiver,
-        object,
-        need,
-        gives,
+        giver: word(giver)?,
+        receiver: word(receiver)?,
+        object: word(object)?,
+        need: names(heap, need)?,
+        gives: names(heap, gives)?,
     })
 }
 
 // What follows a head.
-fn form_with(heap: Global, head: Head, parts: Parts) -> Result<Form, Denial>
-    ensures { (line : List ℕ) → TakenAs (form_at line) (form_with (head_is head) (ahead line parts)) result }
+fn form_with(heap: Global, head: Head, rest: &[Item]) -> Result<Form, Denial>
+    ensures { (line : List ℕ) → TakenAs (form_at line) (form_with (head_is head) (map (item_of line) rest.now)) result }
 {
     match head {
-        Head::Right => Ok(Form::Right(only_name(parts)?)),
-        Head::SubjectType => Ok(Form::SubjectType(only_name(parts)?)),
-        Head::ObjectType => Ok(Form::ObjectType(only_name(parts)?)),
-        Head::Owner => Ok(Form::Owner(only_name(parts)?)),
-        Head::Create => create(heap, parts),
-        Head::Transform => transform(heap, parts),
-        Head::Grant => grant(heap, parts),
+        Head::Right => only_name(rest).map(Form::Right),
+        Head::SubjectType => only_name(rest).map(Form::SubjectType),
+        Head::ObjectType => only_name(rest).map(Form::ObjectType),
+        Head::Owner => only_name(rest).map(Form::Owner),
+        Head::Create => create(heap, rest),
+        Head::Transform => transform(heap, rest),
+        Head::Grant => grant(heap, rest),
         Head::Note => Ok(Form::Note),
-        Head::Unknown => Err(Denial::Refused(Refusal::WrongForm)),
     }
 }
 
 // The form that the items of a line are.
-pub fn read_form(heap: Global, line: &[u8], items: Items) -> Result<Form, Denial>
-    ensures { TakenAs (form_at line.now) (form_of (entries (shape line.now items))) result }
+pub fn read_form(heap: Global, line: &[u8], items: &[Item]) -> Result<Form, Denial>
+    ensures { TakenAs (form_at line.now) (form_of (entries (shape line.now items.now))) result }
 {
-    let mut parts = Parts::of(heap, items)?;
-    let head = word(&mut parts)?;
-    form_with(heap, head_of(word_bytes(line, head)), parts)
+    let [first, rest @ ..] = items else {
+        return Err(Denial::Because(Refusal::WrongForm));
+    };
+    let head = Head::try_from(word_bytes(line, word(first)?))?;
+    form_with(heap, head, rest)
 }

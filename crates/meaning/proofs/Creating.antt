@@ -1,5 +1,9 @@
 -- Creations: which one is found for a pair, and that each is found that lines declared.
-use Rattle.std.proofs.Common.{◌≡◌, ℕ, Bool, true, false, cond, eqb, List, [], ◌∷◌, ◌++◌, Some, None, Option, sym, refl, ◌∙◌, subst, inl, inr, arith}
+use Rattle.std.proofs.Common.{◌≡◌, ℕ, Bool, true, false, cond, eqb, List, [], ◌∷◌, ◌++◌, Some, None, Option, sym, refl, ap, ◌∙◌, subst, inl, inr}
+use Rattle.std.specs.List.{find}
+use Rattle.std.specs.Option.{option_map, option_or}
+use Rattle.std.proofs.lemmas.List.Folds.{find-append}
+use Rattle.std.proofs.lemmas.Option.{none-some}
 use Rattle.std.proofs.lemmas.Bool.{and_parts, and_from, eqb-true, eq-eqb, cond-true}
 use Rattle.rows.specs.Rules.{CreationRule, Book, is_pair, created}
 use Rattle.meaning.specs.Named.{Names}
@@ -14,9 +18,9 @@ Brings u o set cs = (c : CreationRule) × In c cs × (c.by ≡ u) × (c.on ≡ o
 
 module _ (u o : ℕ) where
   pub created_in : (cs : List CreationRule) (set : ℕ) → created u o cs ≡ Some set → Brings u o set cs
-  created_in [] set e = absurd (let z : ◌≡◌ {A = ℕ} 0 1 = cc in omega arith)
+  created_in [] set e = absurd (none-some set e)
   created_in (c ∷ cs) set e = by (is_pair u o c) refl e (created_in cs set) where
-    by : (t : Bool) → is_pair u o c ≡ t → cond t (Some c.gets) (created u o cs) ≡ Some set → (created u o cs ≡ Some set → Brings u o set cs)
+    by : (t : Bool) → is_pair u o c ≡ t → option_map (λ d. d.gets) (cond t (Some c) (find (is_pair u o) cs)) ≡ Some set → (created u o cs ≡ Some set → Brings u o set cs)
         → Brings u o set (c ∷ cs)
     by true is h later =
         let (p, q) = and_parts (eqb c.by u) (eqb c.on o) is in
@@ -24,19 +28,16 @@ module _ (u o : ℕ) where
     by false is h later = let (d, i, p, q, s) = later h in (d, inr i, p, q, s)
 
   created_front : (cs ds : List CreationRule) (set : ℕ) → created u o cs ≡ Some set → created u o (cs ++ ds) ≡ Some set
-  created_front [] ds set e = absurd (let z : ◌≡◌ {A = ℕ} 0 1 = cc in omega arith)
-  created_front (c ∷ cs) ds set e = by (is_pair u o c) (Some c.gets) (created u o cs) (created u o (cs ++ ds)) e (created_front cs ds set) where
-    by : (t : Bool) (here old new : Option ℕ) → cond t here old ≡ Some set → (old ≡ Some set → new ≡ Some set) → cond t here new ≡ Some set
-    by true here old new h later = h
-    by false here old new h later = later h
+  created_front cs ds set e = ap (option_map (λ d. d.gets)) (find-append (is_pair u o) cs ds) ∙ stays (find (is_pair u o) cs) e where
+    stays : (first : Option CreationRule) → option_map (λ d. d.gets) first ≡ Some set → option_map (λ d. d.gets) (option_or first (find (is_pair u o) ds)) ≡ Some set
+    stays None e = absurd (none-some set e)
+    stays (Some c) e = e
 
   created_back : (cs ds : List CreationRule) → created u o cs ≡ None → created u o (cs ++ ds) ≡ created u o ds
-  created_back [] ds e = refl
-  created_back (c ∷ cs) ds e = by (is_pair u o c) e (created_back cs ds) where
-    by : (t : Bool) → cond t (Some c.gets) (created u o cs) ≡ None → (created u o cs ≡ None → created u o (cs ++ ds) ≡ created u o ds)
-        → cond t (Some c.gets) (created u o (cs ++ ds)) ≡ created u o ds
-    by true h later = absurd (let z : ◌≡◌ {A = ℕ} 0 1 = cc in omega arith)
-    by false h later = later h
+  created_back cs ds e = ap (option_map (λ d. d.gets)) (find-append (is_pair u o) cs ds) ∙ falls (find (is_pair u o) cs) e where
+    falls : (first : Option CreationRule) → option_map (λ d. d.gets) first ≡ None → option_map (λ d. d.gets) (option_or first (find (is_pair u o) ds)) ≡ created u o ds
+    falls None e = refl
+    falls (Some c) e = absurd (none-some c.gets (sym e))
 
 -- each creation of the list is the one that is found for its pair
 abbrev pub EachFound : List CreationRule → Type 0
@@ -50,8 +51,9 @@ found_push cs d none each c i =
     ] where
       itself : created d.by d.on (d ∷ []) ≡ Some d.gets
       itself =
-          cond-true (is_pair d.by d.on d) (Some d.gets) None
-          (and_from (eqb d.by d.by) (eqb d.on d.on) (eq-eqb d.by d.by refl) (eq-eqb d.on d.on refl))
+          ap (option_map (λ x. x.gets))
+          (cond-true (is_pair d.by d.on d) (Some d) None
+          (and_from (eqb d.by d.by) (eqb d.on d.on) (eq-eqb d.by d.by refl) (eq-eqb d.on d.on refl)))
 
 found_with : (b : Book) (e : Entry) → Room b e → EachFound b.creations → EachFound (with_entry b e).creations
 found_with b (rule_entry rule) room each = each

@@ -2,6 +2,6 @@ pub mod Answers
 pub mod Columns
 pub mod States
 pub mod Machine
-pub mod Grids
+pub mod Tables
 pub mod Places
 pub mod Laws

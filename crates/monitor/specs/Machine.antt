@@ -13,20 +13,21 @@ use Rattle.monitor.specs.declared.step.Done.{Done}
 use Rattle.monitor.specs.declared.step.Done.TheVariants.{Made, Added, Taken}
 use Rattle.monitor.specs.States.{State, object, type_of, cell, is_subject, in_table, with_subject, with_object, with_cell}
 
+-- where there is room, the table with one more subject or object, and its number
+abbrev pub more_subjects : State → ℕ → Result (State × ℕ) Refusal
+more_subjects S u =
+    demand (nat_lt (length S.subjects) max_subjects) LimitReached (Ok (with_subject S u, length S.subjects))
+
+abbrev pub more_objects : State → ℕ → Result (State × ℕ) Refusal
+more_objects S t =
+    demand (nat_lt (length S.objects) max_objects) LimitReached (Ok (with_object S t, length S.objects))
+
 -- Building a table: one more subject, one more object, one more right in a cell.
 abbrev pub build_subject : State → ℕ → State × Result ℕ Refusal
-build_subject S u =
-    settle S
-    (demand (nat_lt u max_subject_types) OutOfRange
-    (demand (nat_lt (length S.subjects) max_subjects) LimitReached
-    (Ok (with_subject S u, length S.subjects))))
+build_subject S u = settle S (demand (nat_lt u max_subject_types) OutOfRange (more_subjects S u))
 
 abbrev pub build_object : State → ℕ → State × Result ℕ Refusal
-build_object S t =
-    settle S
-    (demand (nat_lt t max_object_types) OutOfRange
-    (demand (nat_lt (length S.objects) max_objects) LimitReached
-    (Ok (with_object S t, length S.objects))))
+build_object S t = settle S (demand (nat_lt t max_object_types) OutOfRange (more_objects S t))
 
 abbrev pub build_holding : ℕ → State → ℕ → ℕ → ℕ → State × Result (Unit {0}) Refusal
 build_holding w S s o r =

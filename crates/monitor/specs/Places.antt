@@ -3,8 +3,5 @@ use Rattle.std.specs.Prelude.{ℕ}
 use Rattle.monitor.specs.declared.cells.Place.{Place}
 use Rattle.monitor.specs.States.{State, type_of, object, cell}
 
-abbrev pub place_in : State → ℕ → ℕ → ℕ × ℕ × ℕ
-place_in S s o = (type_of S s, (object S o).type, cell S s o)
-
-abbrev pub place_of : Place → ℕ × ℕ × ℕ
-place_of p = (p.subject.number, p.object.number, p.held.bits)
+abbrev pub place_in : State → ℕ → ℕ → Place
+place_in S s o = record { subject = type_of S s; object = (object S o).type; held = cell S s o }

@@ -1,5 +1,6 @@
 -- The table of rights.
-use Rattle.std.specs.Prelude.{ℕ, Bool, ◌&&◌, List, [], ◌∷◌, ◌++◌, map, length, replicate, nat_lt, slice_index, slice_index_or, slice_set}
+use Rattle.std.specs.Prelude.{◌≡◌, ℕ, ◌<◌, ◌≤◌, Bool, ◌&&◌, List, [], ◌∷◌, ◌++◌, map, length, replicate, nat_lt, slice_index, slice_index_or, slice_set}
+use Rattle.rights.specs.Limits.{max_subjects}
 use Rattle.rights.specs.Sets.{nothing}
 
 -- An object: its type, and a cell for each subject, which is the set of rights that this subject holds for it.
@@ -34,6 +35,11 @@ is_object S o = nat_lt o (length S.objects)
 -- do the subject and the object stand in the table?
 abbrev pub in_table : State → ℕ → ℕ → Bool
 in_table S s o = is_subject S s && is_object S o
+
+-- Every table is well-formed: at most 64 subjects, and for each object a cell for each subject.
+pub record WellFormed (S : State) : Type 0 where
+  pub few : length S.subjects ≤ max_subjects
+  pub square : (o : ℕ) → o < length S.objects → length (object S o).cells ≡ length S.subjects
 
 abbrev pub empty_table : State
 empty_table = record { subjects = []; objects = [] }

@@ -1,10 +1,9 @@
 // The table of rights and its monitor.
 #![tactic(auto)]
 
-pub mod cells;
+mod cells;
 pub mod column;
 pub mod draft;
-pub mod grid;
 pub mod step;
 pub mod table;
 

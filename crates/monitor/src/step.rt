@@ -2,7 +2,7 @@
 ghost use Rattle.std.specs.Prelude.{◌≡◌};
 ghost use Rattle.monitor.specs.Answers.{answer_number};
 
-#[derive(Clone, Copy)]
+#[derive(Clone, Copy, PartialEq, Eq)]
 pub enum Step {
     // The subject makes an object of this type.
     Create {
@@ -31,7 +31,7 @@ pub enum Step {
     },
 }
 
-#[derive(Clone, Copy)]
+#[derive(Clone, Copy, PartialEq, Eq)]
 pub enum Done {
     // An object was made: its number.
     Made(usize),
@@ -48,7 +48,7 @@ impl Done {
     {
         match self {
             Done::Made(object) => Some(object),
-            Done::Added(new) => Some(if new { 1 } else { 0 }),
+            Done::Added(new) => Some(usize::from(new)),
             Done::Taken => None,
         }
     }

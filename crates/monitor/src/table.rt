@@ -1,77 +1,88 @@
 // The table, and the monitor that performs or refuses steps on it.
-ghost use Rattle.std.specs.Prelude.{◌≡◌, ◌≤◌, true, map, length, IfOk, Ok};
+ghost use Rattle.std.specs.Prelude.{◌≡◌, IfOk, ◌≤◌, true, length, Ok};
 ghost use Rattle.rights.specs.Limits.{max_rights, max_subjects};
 ghost use Rattle.rights.specs.Refusals.{demand, on_ok};
 ghost use Rattle.rights.specs.declared.refusal.Refusal.TheVariants.{OutOfRange};
 ghost use Rattle.monitor.specs.declared.step.Step.TheVariants.{Create, Transform, Grant, Revoke};
-ghost use Rattle.monitor.specs.States.{object as object_in, cell as cell_in, is_object, in_table};
+ghost use Rattle.monitor.specs.States.{object as object_in, cell as cell_in, is_object, in_table, WellFormed};
 ghost use Rattle.monitor.specs.Columns.{object_of};
 ghost use Rattle.monitor.specs.Machine.{join as join_in, owns, perform as performed};
 ghost use Rattle.monitor.specs.Laws.{Obeys};
-ghost use Rattle.monitor.specs.Grids.{state_of};
 
 use crate::column::Column;
-use crate::grid::Grid;
 use crate::step::{Done, Step};
 use books::RuleBook;
-use rights::limits::MAX_OBJECTS;
 use rights::{ObjectType, Refusal, Right, RightSet, SubjectType};
+use std::marker::Model;
 
-// A table of subjects, objects and cells. No subject is added any more, and no object is ever destroyed.
+// A table of subjects, objects and cells: the type of each subject, and a column for each object. No subject is added
+// any more, and no object is ever destroyed.
 #[derive(Drop)]
 pub struct Table {
-    pub(crate) grid: Grid,
+    pub(crate) subjects: Vec<SubjectType>,
+    pub(crate) columns: Vec<Column>,
+}
+
+impl Model for Table {
+    ghost use Rattle.monitor.specs.States.{State};
+
+    ghost Value = { State };
+
+    ghost use Rattle.monitor.specs.Tables.{state_of, Sound};
+
+    ghost view = { state_of };
+
+    ghost invariant = { Sound };
 }
 
 // Does who holds this set own the object?
 fn is_owner<B: RuleBook>(book: &B, held: RightSet) -> bool
-    ensures { result ≡ owns (B.RuleBook.meaning book.now).owner held.bits }
+    ensures { result ≡ owns (B.RuleBook.meaning book.now).owner held }
 {
-    match book.owner() {
-        None => false,
-        Some(mark) => held.contains(mark),
-    }
+    book.owner().is_some_and(|mark| held.contains(mark))
 }
 
 impl Table {
     // What the subject holds for the object.
     pub fn cell(&self, subject: usize, object: usize) -> Result<RightSet, Refusal>
-        ensures { on_ok (λ x. x.bits) result ≡ demand (in_table (state_of self.now.grid) subject object) OutOfRange (Ok (cell_in (state_of self.now.grid) subject object)) }
+        ensures { result ≡ demand (in_table self.now subject object) OutOfRange (Ok (cell_in self.now subject object)) }
     {
-        let place = self.grid.look(subject, object)?;
+        let place = self.look(subject, object)?;
         Ok(place.held)
     }
 
     // The types of the subjects, by number.
     pub fn subject_types(&self) -> &[SubjectType]
-        ensures value { map (λ t. t.number) result.now ≡ (state_of self.now.grid).subjects }
+        ensures value { result.now ≡ self.now.subjects }
         ensures few { length result.now ≤ max_subjects }
+        ensures well_formed { WellFormed self.now }
     {
-        &self.grid.subjects
+        &self.subjects
     }
 
     // How many objects stand.
     pub fn objects(&self) -> usize
-        ensures { result ≡ length (state_of self.now.grid).objects }
+        ensures { result ≡ length self.now.objects }
     {
-        self.grid.objects()
+        self.columns.len()
     }
 
     // A copy of an object's column.
     pub fn column(&self, number: usize) -> Result<Column, Refusal>
-        ensures value { on_ok (object_of (length (state_of self.now.grid).subjects)) result ≡ demand (is_object (state_of self.now.grid) number) OutOfRange (Ok (object_in (state_of self.now.grid) number)) }
+        ensures value { on_ok (object_of (length self.now.subjects)) result
+            ≡ demand (is_object self.now number) OutOfRange (Ok (object_in self.now number)) }
         ensures full { IfOk result (λ c. length c.cells ≡ max_subjects) }
     {
-        self.grid.column(number)
+        self.columns.get(number).copied().ok_or(Refusal::OutOfRange)
     }
 
     // The right joins the cell.
     fn join(&mut self, subject: usize, object: usize, held: RightSet, right: Right) -> Done
-        requires stands { in_table (state_of self.old.grid) subject object ≡ true }
-        requires held { held.bits ≡ cell_in (state_of self.old.grid) subject object }
-        ensures { (state_of self.new.grid, result) ≡ join_in (state_of self.old.grid) subject object right.number }
+        requires stands { in_table self.old subject object ≡ true }
+        requires held { held ≡ cell_in self.old subject object }
+        ensures { (self.new, result) ≡ join_in self.old subject object right }
     {
-        self.grid.put(subject, object, held.with(right));
+        self.put(subject, object, held.with(right));
         Done::Added(!held.contains(right))
     }
 
@@ -83,9 +94,10 @@ impl Table {
         object: usize,
         right: usize,
     ) -> Result<Done, Refusal>
-        ensures { (state_of self.new.grid, result) ≡ performed max_rights (B.RuleBook.meaning book.now) (state_of self.old.grid) (Transform subject object right) }
+        ensures { (self.new, result)
+            ≡ performed max_rights (B.RuleBook.meaning book.now) self.old (Transform subject object right) }
     {
-        let place = self.grid.look(subject, object)?;
+        let place = self.look(subject, object)?;
         let right = Right::new(right)?;
         let addable = book.may_add(place.subject, place.object, place.held);
         if !addable.contains(right) {
@@ -103,10 +115,11 @@ impl Table {
         object: usize,
         right: usize,
     ) -> Result<Done, Refusal>
-        ensures { (state_of self.new.grid, result) ≡ performed max_rights (B.RuleBook.meaning book.now) (state_of self.old.grid) (Grant giver receiver object right) }
+        ensures { (self.new, result)
+            ≡ performed max_rights (B.RuleBook.meaning book.now) self.old (Grant giver receiver object right) }
     {
-        let from = self.grid.look(giver, object)?;
-        let to = self.grid.look(receiver, object)?;
+        let from = self.look(giver, object)?;
+        let to = self.look(receiver, object)?;
         let right = Right::new(right)?;
         if giver == receiver {
             return Err(Refusal::SameSubject);
@@ -127,10 +140,11 @@ impl Table {
         object: usize,
         right: usize,
     ) -> Result<Done, Refusal>
-        ensures { (state_of self.new.grid, result) ≡ performed max_rights (B.RuleBook.meaning book.now) (state_of self.old.grid) (Revoke owner loser object right) }
+        ensures { (self.new, result)
+            ≡ performed max_rights (B.RuleBook.meaning book.now) self.old (Revoke owner loser object right) }
     {
-        let by = self.grid.look(owner, object)?;
-        let from = self.grid.look(loser, object)?;
+        let by = self.look(owner, object)?;
+        let from = self.look(loser, object)?;
         let right = Right::new(right)?;
         if !is_owner(book, by.held) {
             return Err(Refusal::NotOwner);
@@ -138,7 +152,7 @@ impl Table {
         if !from.held.contains(right) {
             return Err(Refusal::NotHeld);
         }
-        self.grid.put(loser, object, from.held.without(right));
+        self.put(loser, object, from.held.without(right));
         Ok(Done::Taken)
     }
 
@@ -149,23 +163,20 @@ impl Table {
         subject: usize,
         kind: usize,
     ) -> Result<Done, Refusal>
-        ensures { (state_of self.new.grid, result) ≡ performed max_rights (B.RuleBook.meaning book.now) (state_of self.old.grid) (Create subject kind) }
+        ensures { (self.new, result)
+            ≡ performed max_rights (B.RuleBook.meaning book.now) self.old (Create subject kind) }
     {
-        let creator = self.grid.subject_type(subject)?;
+        let creator = self.subject_type(subject)?;
         let kind = ObjectType::new(kind)?;
         let rights = book.creation(creator, kind).ok_or(Refusal::NotPermitted)?;
-        let number = self.grid.objects();
-        if number >= MAX_OBJECTS {
-            return Err(Refusal::LimitReached);
-        }
-        self.grid.add_object(kind);
-        self.grid.put(subject, number, rights);
+        let number = self.new_object(kind)?;
+        self.put(subject, number, rights);
         Ok(Done::Made(number))
     }
 
     // The call for the step.
     fn dispatch<B: RuleBook>(&mut self, book: &B, step: Step) -> Result<Done, Refusal>
-        ensures { (state_of self.new.grid, result) ≡ performed max_rights (B.RuleBook.meaning book.now) (state_of self.old.grid) step }
+        ensures { (self.new, result) ≡ performed max_rights (B.RuleBook.meaning book.now) self.old step }
     {
         match step {
             Step::Create { subject, kind } => self.create(book, subject, kind),
@@ -191,9 +202,11 @@ impl Table {
 
     // Any step. Beside the equation with the machine stands the monitor's law in plain terms.
     pub fn perform<B: RuleBook>(&mut self, book: &B, step: Step) -> Result<Done, Refusal>
-        ensures machine { (state_of self.new.grid, result) ≡ performed max_rights (B.RuleBook.meaning book.now) (state_of self.old.grid) step }
-        ensures law { Obeys max_rights (B.RuleBook.meaning book.now) (state_of self.old.grid) step (state_of self.new.grid) result }
+        ensures machine { (self.new, result) ≡ performed max_rights (B.RuleBook.meaning book.now) self.old step }
+        ensures law { Obeys max_rights (B.RuleBook.meaning book.now) self.old step self.new result }
     {
+        // The law is that of a well-formed table, and a table that is looked into is known to be one.
+        let _ = &self.columns;
         self.dispatch(book, step)
     }
 }

@@ -1,5 +1,4 @@
 mod Loops
 mod Turns
-mod Places
-mod Considering
+mod Creators
 mod Verdicts

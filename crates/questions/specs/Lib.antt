@@ -1,2 +1,3 @@
-pub mod Views
-pub mod Creators
+pub mod Fields
+pub mod Moves
+pub mod Places

@@ -2,8 +2,10 @@
 #![tactic(auto)]
 
 mod ask;
+mod asked;
 mod call;
+mod run;
 mod search;
 
-pub use ask::RUN_PLACES;
 pub use call::{can, can_new, perform};
+pub use run::RUN_PLACES;

@@ -1,201 +1,163 @@
 // The search in one column of the table.
-ghost use Rattle.std.specs.Prelude.{◌≡◌, ◌<◌, ◌≤◌, not, ◌&&◌, length, take, IfSome, slice_index, slice_set};
+ghost use Rattle.std.specs.Prelude.{◌≡◌, ◌+◌, ◌<◌, ◌≤◌, length, take, IfSome};
 ghost use Rattle.std.specs.Option.{option_map};
-ghost use Rattle.rights.specs.Limits.{max_rights};
-ghost use Rattle.rights.specs.Sets.{has, add};
-ghost use Rattle.safety.specs.Rule.{held, receiver as receiver_of, right as right_of, moved, step_for, next, find, as_steps, most_moves};
-ghost use Rattle.questions.specs.Views.{types_of, cells_of};
+ghost use Rattle.rights.specs.Limits.{max_rights, max_subjects};
+ghost use Rattle.safety.specs.Rule.{step_for as step_of, most_moves};
+ghost use Rattle.safety.specs.Questions.{list_places};
+ghost use Rattle.questions.specs.Fields.{attained, next_in, stepped, ahead, onward, if_found};
+ghost use Rattle.questions.specs.Places.{field_in};
+ghost use Rattle.questions.specs.Moves.{move_of};
 
+use crate::asked::Asked;
+use crate::run::{MAX_MOVES, Run};
 use books::RuleBook;
-use monitor::Step;
-use rights::limits::{MAX_RIGHTS, MAX_SUBJECTS};
-use rights::{ObjectType, Right, RightSet, SubjectType};
-use safety::Move;
+use monitor::{Column, Step};
+use rights::Right;
+use std::marker::Model;
 
-// The most moves that a column can want: each right for each subject.
-pub(crate) const MAX_MOVES: usize = MAX_SUBJECTS * MAX_RIGHTS;
-
-pub(crate) fn type_at(types: &[SubjectType], subject: usize) -> SubjectType
-    requires { subject < length types.now }
-    ensures { result.number ≡ slice_index (types_of types.now) subject }
-{
-    types[subject]
+// A move that adds a right: the giver gives it to the receiver, or without a giver the receiver adds it for itself.
+#[derive(Clone, Copy)]
+struct Gain {
+    giver: Option<usize>,
+    receiver: usize,
+    right: Right,
 }
 
-fn cell_at(cells: &[RightSet], subject: usize) -> RightSet
-    requires { subject < length cells.now }
-    ensures { result.bits ≡ held (cells_of cells.now) subject }
-{
-    cells[subject]
-}
-
-// Is the right allowed, and new in the cell?
-fn is_new(allowed: RightSet, cells: &[RightSet], receiver: usize, right: usize) -> bool
-    requires stands { receiver < length cells.now }
-    requires small { right < max_rights }
-    ensures { result ≡ (has allowed.bits right && not (has (held (cells_of cells.now) receiver) right)) }
-{
-    match Right::new(right) {
-        Ok(right) => allowed.contains(right) && !cell_at(cells, receiver).contains(right),
-        Err(_) => false,
+impl Gain {
+    // The move as a step, for the object.
+    fn step(self, object: usize) -> Step
+        ensures { result ≡ step_of object (move_of self) }
+    {
+        let right = self.right.number();
+        match self.giver {
+            None => Step::Transform {
+                subject: self.receiver,
+                object,
+                right,
+            },
+            Some(giver) => Step::Grant {
+                giver,
+                receiver: self.receiver,
+                object,
+                right,
+            },
+        }
     }
 }
 
-// What the receiver may add to its own cell.
-fn may_add<B: RuleBook>(
-    book: &B,
-    types: &[SubjectType],
-    kind: ObjectType,
-    cells: &[RightSet],
-    receiver: usize,
-) -> RightSet
-    requires types { receiver < length types.now }
-    requires cells { receiver < length cells.now }
-    ensures { result.bits ≡ (B.RuleBook.meaning book.now).may_add (slice_index (types_of types.now) receiver) kind.number (held (cells_of cells.now) receiver) }
-{
-    book.may_add(type_at(types, receiver), kind, cell_at(cells, receiver))
+// A search for what is asked, in the column of an object. The cells are as far as the search has come.
+#[derive(Drop)]
+pub(crate) struct Search<'s, 'a, B: RuleBook> {
+    asked: &'s Asked<'a, B>,
+    object: usize,
+    column: Column,
 }
 
-// What the giver may give to the receiver.
-fn may_give<B: RuleBook>(
-    book: &B,
-    types: &[SubjectType],
-    kind: ObjectType,
-    cells: &[RightSet],
-    giver: usize,
-    receiver: usize,
-) -> RightSet
-    requires givers { giver < length types.now }
-    requires receivers { receiver < length types.now }
-    requires cells { giver < length cells.now }
-    ensures { result.bits ≡ (B.RuleBook.meaning book.now).may_give (slice_index (types_of types.now) giver) (slice_index (types_of types.now) receiver) kind.number (held (cells_of cells.now) giver) }
-{
-    book.may_give(
-        type_at(types, giver),
-        type_at(types, receiver),
-        kind,
-        cell_at(cells, giver),
-    )
+impl<'s, 'a, B: RuleBook> Model for Search<'s, 'a, B> {
+    ghost use Rattle.std.specs.Prelude.{◌≡◌, length};
+    ghost use Rattle.rights.specs.Limits.{max_subjects};
+    ghost use Rattle.questions.specs.Fields.{Field};
+    ghost use Rattle.questions.specs.Places.{field_in};
+
+    ghost Value = { B × Field };
+
+    ghost view = { λ s. (s.asked.now.book.now, field_in s.asked.now s.object s.column) };
+
+    ghost invariant = { λ s. length s.column.cells ≡ max_subjects };
 }
 
-// The first move that adds a right: receivers by number, for each one its transforms before the grants to it, grants by the
-// giver's number, then the lowest right.
-fn next_move<B: RuleBook>(
-    book: &B,
-    types: &[SubjectType],
-    kind: ObjectType,
-    cells: &[RightSet],
-) -> Option<Move>
-    requires { length cells.now ≡ length types.now }
-    ensures { result ≡ next max_rights (B.RuleBook.meaning book.now) (types_of types.now) kind.number (cells_of cells.now) }
-{
-    let count = types.len();
-    'search: {
-        for receiver in 0..count {
-            let own = may_add(book, types, kind, cells, receiver);
-            for right in 0..MAX_RIGHTS {
-                if is_new(own, cells, receiver, right) {
-                    break 'search Some(Move::Add { receiver, right });
-                }
-            }
-            for giver in 0..count {
-                let gift = may_give(book, types, kind, cells, giver, receiver);
-                for given in 0..MAX_RIGHTS {
-                    if giver != receiver && is_new(gift, cells, receiver, given) {
-                        break 'search Some(Move::Give {
-                            giver,
+impl<'s, 'a, B: RuleBook> Search<'s, 'a, B> {
+    pub(crate) fn new(asked: &'s Asked<'a, B>, object: usize, column: Column) -> Search<'s, 'a, B>
+        ensures { result ≡ (asked.now.book.now, field_in asked.now object column) }
+    {
+        Search {
+            asked,
+            object,
+            column,
+        }
+    }
+
+    // Does the asked holding stand?
+    pub(crate) fn holds(&self) -> bool
+        ensures { result ≡ attained self.now.1 }
+    {
+        let asked = self.asked;
+        let column = &self.column;
+        column.cells[asked.subject].contains(asked.right)
+    }
+
+    // The first move that adds a right: receivers by number, for each one its transforms before the grants to it,
+    // grants by the giver's number, then the lowest right.
+    fn next_move(&self) -> Option<Gain>
+        ensures first { option_map move_of result ≡ next_in max_rights (B.RuleBook.meaning self.now.0) self.now.1 }
+        ensures stands { IfSome result (λ g. g.receiver < length self.now.1.types) }
+    {
+        let book = self.asked.book;
+        let types = self.asked.table.subject_types();
+        let column = &self.column;
+        // Three nested loops, left by the label at the first move.
+        'search: {
+            for (receiver, &to) in types.iter().enumerate() {
+                let held = column.cells[receiver];
+                let own = book.may_add(to, column.kind, held);
+                for right in own.members() {
+                    if !held.contains(right) {
+                        break 'search Some(Gain {
+                            giver: None,
                             receiver,
-                            right: given,
+                            right,
                         });
                     }
                 }
+                for (giver, &from) in types.iter().enumerate() {
+                    let gift = book.may_give(from, to, column.kind, column.cells[giver]);
+                    // Most gifts bring nothing new.
+                    if giver == receiver || gift.is_within(held) {
+                        continue;
+                    }
+                    for right in gift.members() {
+                        if !held.contains(right) {
+                            break 'search Some(Gain {
+                                giver: Some(giver),
+                                receiver,
+                                right,
+                            });
+                        }
+                    }
+                }
             }
+            None
         }
-        None
     }
-}
 
-// The right joins the receiver's cell.
-fn join(cells: &mut [RightSet], subject: usize, number: usize)
-    requires stands { subject < length cells.old }
-    requires small { number < max_rights }
-    ensures { cells_of cells.new ≡ slice_set (cells_of cells.old) subject (add (held (cells_of cells.old) subject) number) }
-{
-    if let Ok(right) = Right::new(number) {
-        cells[subject] = cell_at(cells, subject).with(right);
+    // The next move is taken, if there is one: the step that it is.
+    pub(crate) fn step(&mut self) -> Option<Step>
+        ensures taken { (self.new.1, result)
+            ≡ stepped self.old.1 (next_in max_rights (B.RuleBook.meaning self.old.0) self.old.1) }
+        ensures book { self.new.0 ≡ self.old.0 }
+    {
+        let gain = self.next_move()?;
+        let column = &mut self.column;
+        let held = column.cells[gain.receiver];
+        column.cells[gain.receiver] = held.with(gain.right);
+        Some(gain.step(self.object))
     }
-}
 
-// The column after the move.
-fn apply(cells: &mut [RightSet], step: Move)
-    requires stands { receiver_of step < length cells.old }
-    requires small { right_of step < max_rights }
-    ensures { cells_of cells.new ≡ moved (cells_of cells.old) step }
-{
-    match step {
-        Move::Add { receiver, right } => join(cells, receiver, right),
-        Move::Give {
-            giver: _,
-            receiver,
-            right,
-        } => join(cells, receiver, right),
-    }
-}
-
-// The move as a step, for the object.
-fn step_for(object: usize, step: Move) -> Step
-    ensures { result ≡ step_for object step }
-{
-    match step {
-        Move::Add { receiver, right } => Step::Transform {
-            subject: receiver,
-            object,
-            right,
-        },
-        Move::Give {
-            giver,
-            receiver,
-            right,
-        } => Step::Grant {
-            giver,
-            receiver,
-            object,
-            right,
-        },
-    }
-}
-
-// The moves of the shown run, as steps for the object, in the first places of `shown`: how many there are, if there is a
-// run. The column is used up.
-pub(crate) fn find_run<B: RuleBook>(
-    book: &B,
-    types: &[SubjectType],
-    kind: ObjectType,
-    cells: &mut [RightSet],
-    subject: usize,
-    asked: Right,
-    object: usize,
-    shown: &mut [Step],
-) -> Option<usize>
-    requires square { length cells.old ≡ length types.now }
-    requires stands { subject < length types.now }
-    requires room { most_moves max_rights ≤ length shown.old }
-    ensures run { option_map (λ k. take k shown.new) result ≡ as_steps object (find max_rights (B.RuleBook.meaning book.now) (types_of types.now) kind.number subject asked.number (most_moves max_rights) (cells_of cells.old)) }
-    ensures few { IfSome result (λ k. k ≤ most_moves max_rights) }
-{
-    for count in 0..MAX_MOVES {
-        if cell_at(cells, subject).contains(asked) {
-            return Some(count);
+    // Takes moves until the asked holding stands, and puts their steps behind those of the run. Does it come to stand?
+    pub(crate) fn reach(&mut self, run: &mut Run) -> bool
+        requires { length run.old + most_moves max_rights ≤ list_places max_rights }
+        ensures { if_found result run.new
+            ≡ onward run.old (ahead max_rights (B.RuleBook.meaning self.old.0) (most_moves max_rights) self.old.1) }
+    {
+        for _move in 0..MAX_MOVES {
+            if self.holds() {
+                return true;
+            }
+            let Some(step) = self.step() else {
+                return false;
+            };
+            run.push(step);
         }
-        let Some(step) = next_move(book, types, kind, cells) else {
-            return None;
-        };
-        apply(cells, step);
-        shown[count] = step_for(object, step);
-    }
-    if cell_at(cells, subject).contains(asked) {
-        Some(MAX_MOVES)
-    } else {
-        None
+        self.holds()
     }
 }

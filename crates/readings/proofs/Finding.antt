@@ -1,6 +1,6 @@
 -- Names looked up one by one: the numbers so far, and those that are left.
-use Rattle.std.proofs.Common.{◌≡◌, ℕ, ◌+◌, ◌<◌, ◌≤◌, List, [], ◌∷◌, ◌++◌, length, get_or, drop, Ok, Err, Result, sym, refl, ap, ◌∙◌, append_assoc, append-nil}
-use Rattle.std.proofs.lemmas.List.{at_drop_more, at_drop_all}
+use Rattle.std.proofs.Common.{◌≡◌, ℕ, ◌+◌, ◌<◌, List, [], ◌∷◌, ◌++◌, length, get_or, drop, Ok, Err, Result, sym, refl, ap, ◌∙◌, append_assoc}
+use Rattle.std.proofs.lemmas.List.{at_drop_more}
 use Rattle.rights.specs.declared.refusal.Refusal.{Refusal}
 use Rattle.words.specs.declared.tree.Word.{Word}
 use Rattle.meaning.specs.Schemes.{and_then, found, all_found}
@@ -9,10 +9,6 @@ use Rattle.forms.specs.Views.{name_at, names_at}
 abbrev pub with_found : List ℕ → Result (List ℕ) Refusal → Result (List ℕ) Refusal
 with_found ks (Ok more) = Ok (ks ++ more)
 with_found ks (Err e) = Err e
-
-pub none_found : (r : Result (List ℕ) Refusal) → with_found [] r ≡ r
-none_found (Ok more) = refl
-none_found (Err e) = refl
 
 one_found : (ks : List ℕ) (k : ℕ) (r : Result (List ℕ) Refusal) → with_found ks (and_then r (λ ms. Ok (k ∷ ms))) ≡ with_found (ks ++ (k ∷ [])) r
 one_found ks k (Ok more) = ap (λ l. Ok l) (sym (append_assoc ks (k ∷ []) more))
@@ -35,6 +31,3 @@ module _ (line : List ℕ) (names : List Word) (known : List (List ℕ)) where
 
     pub missing_here : (e : Refusal) → Err e ≡ found (name_at line w) known → with_found ks (left i) ≡ Err e
     missing_here e h = ap (with_found ks) (here ∙ ap (λ r. and_then r (λ k. and_then (left (i + 1)) (λ ms. Ok (k ∷ ms)))) (sym h))
-
-  pub all_done : (i : ℕ) (ks : List ℕ) → length names ≤ i → with_found ks (left i) ≡ Ok ks
-  all_done i ks l = ap (with_found ks) (at_drop_all (λ l. all_found (names_at line l) known) names i l) ∙ ap (λ l. Ok l) (append-nil ks)

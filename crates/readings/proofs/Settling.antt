@@ -1,21 +1,32 @@
--- A declaration by number that was refused: nothing was due, and the scheme is as it was.
-use Rattle.std.proofs.Common.{◌≡◌, ℕ, Ok, Err, Result, ap, arith}
+-- The answer of a declaration, passed on as that of a line.
+use Rattle.std.proofs.Common.{◌≡◌, ℕ, Ok, Err, Result, sym, refl, ap}
+use Rattle.std.specs.Result.{MatchResult, IsOkAnd, IsErrAnd}
 use Rattle.rights.specs.Refusals.{settle}
 use Rattle.rights.specs.declared.refusal.Refusal.{Refusal}
-use Rattle.words.specs.declared.stop.Denial.{Denial}
-use Rattle.words.specs.declared.stop.Denial.TheVariants.{Refused}
+use Rattle.words.specs.Stops.{Denial}
+use Rattle.words.specs.declared.stop.Failed.TheVariants.{Memory, Because}
 use Rattle.meaning.specs.Named.{Named}
 use Rattle.meaning.specs.Schemes.{quiet}
+use Rattle.schemes.specs.Calls.{CarriedOut}
 use Rattle.readings.specs.Results.{DeclaredAs}
 
-refused : (s after : Named) (r : Result (Named × Unit {0}) Refusal) (e : Refusal) → ◌≡◌ {A = Named × Result (Unit {0}) Refusal} (after, Err e) (settle s r) → (quiet r ≡ Err e) × (after ≡ s)
-refused s after (Ok done) e h = absurd (let p : ◌≡◌ {A = Result (Unit {0}) Refusal} (Err e) (Ok done.1) = ap (λ x. x.1) h in let z : ◌≡◌ {A = ℕ} 0 1 = cc in omega arith)
-refused s after (Err d) e h = (let p : ◌≡◌ {A = Result (Unit {0}) Refusal} (Err e) (Err d) = ap (λ x. x.1) h in cc, ap (λ x. x.0) h)
+-- a declaration by number, its refusal as a denial
+settled : (s after : Named) (r : Result (Named × Unit {0}) Refusal) (x : Result (Unit {0}) Refusal) (out : Result (Unit {0}) Denial) → after ≡ (settle s r).0 → x ≡ (settle s r).1
+    → MatchResult x (λ y. out ≡ Ok y) (λ e. IsErrAnd out (λ d. d ≡ Because e)) → DeclaredAs (quiet r) s after out
+settled s after (Ok done) (Ok y) out left is m = rw m (ap (λ s. Ok s) (sym left))
+settled s after (Err e) (Err d) (Err f) left is m = let k : f ≡ Because e = cc in rw k (refl, left)
+settled s after (Ok done) (Err d) out left is m = absurd (cc)
+settled s after (Err e) (Ok y) out left is m = absurd (cc)
+settled s after (Err e) (Err d) (Ok y) left is m = absurd m
 
--- passed on as a denial
-pub refused_so : (s after : Named) (due : Result Named Refusal) (r : Result (Named × Unit {0}) Refusal) (e : Refusal) (out : Result (Unit {0}) Denial)
-    → due ≡ quiet r → ◌≡◌ {A = Named × Result (Unit {0}) Refusal} (after, Err e) (settle s r) → ((y : Denial) × (out ≡ Err y) × (y ≡ Refused e)) → DeclaredAs due s after out
-refused_so s after due r e out is h (y, o, k) =
-    let p = refused s after r e h in
-    let q : out ≡ Err (Refused e) = cc in
-    rw q (rw is p.0, p.1)
+pub settled_as : (s after : Named) (due : Result Named Refusal) (r : Result (Named × Unit {0}) Refusal) (x : Result (Unit {0}) Refusal) (out : Result (Unit {0}) Denial) → due ≡ quiet r
+    → ◌≡◌ {A = Named × Result (Unit {0}) Refusal} (after, x) (settle s r) → MatchResult x (λ y. out ≡ Ok y) (λ e. IsErrAnd out (λ d. d ≡ Because e)) → DeclaredAs due s after out
+settled_as s after due r x out is h m = rw is (settled s after r x out (ap (λ p. p.0) h) (ap (λ p. p.1) h) m)
+
+-- a new name, its number left out
+pub named_as : (s after : Named) (due : Result (Named × ℕ) Refusal) (x : Result ℕ Denial) (out : Result (Unit {0}) Denial) (P : ℕ → Unit {0} → Type 0)
+    → CarriedOut due s after x → MatchResult x (λ n. IsOkAnd out (P n)) (λ d. out ≡ Err d) → DeclaredAs (quiet due) s after out
+named_as s after due (Ok n) (Ok y) P h m = ap quiet h
+named_as s after due (Ok n) (Err d) P h m = absurd m
+named_as s after due (Err (Because e)) out P h m = rw m (ap quiet h.0, h.1)
+named_as s after due (Err Memory) out P h m = rw m h

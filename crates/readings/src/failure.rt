@@ -1,9 +1,5 @@
 // Why a text was not read.
 use faults::Fault;
+use words::Failed;
 
-#[derive(Drop)]
-pub enum Failure {
-    // want of memory, which is no fault of the text
-    Memory,
-    Fault(Fault),
-}
+pub type Failure = Failed<Fault>;

@@ -5,7 +5,6 @@ use Rattle.rights.specs.Refusals.{on_ok}
 use Rattle.rights.specs.declared.refusal.Refusal.{Refusal}
 use Rattle.books.specs.Meaning.{Meaning}
 use Rattle.rows.specs.Rules.{book_meaning}
-use Rattle.rows.specs.Books.{book_of}
 use Rattle.rows.specs.Drafts.{Declared, declare_right, declare_subject_type, declare_object_type, declare_owner, declare_creation, declare_row}
 use Rattle.flags.specs.Flags.{flags_meaning}
 use Rattle.monitor.specs.States.{State}
@@ -23,8 +22,8 @@ use Rattle.replay.specs.declared.session.Book.TheVariants.{Rows, Flags}
 
 -- the rules of the current book
 abbrev pub rules_in : Book → Meaning
-rules_in (Rows b) = book_meaning (book_of b.table)
-rules_in (Flags b) = flags_meaning b.settings
+rules_in (Rows b) = book_meaning b
+rules_in (Flags b) = flags_meaning b
 
 -- how many steps of a run the reply shows
 abbrev pub shown_length : Reply → ℕ

@@ -31,87 +31,80 @@ pub enum Answer {
     Cells(Vec<Holding>),
 }
 
+// A value as a line shows it.
+#[derive(Drop)]
+struct Shown<T>(T);
+
 // The numbers of the rights in braces.
-fn show_rights<W: fmt::Write>(rights: RightSet, f: &mut fmt::Formatter<W>) -> fmt::Result {
-    f.write_str("{")?;
-    let mut first = true;
-    for right in rights.members() {
-        let number = right.number();
-        if first {
-            write!(f, "{number}")?;
-        } else {
-            write!(f, " {number}")?;
+impl fmt::Display for Shown<RightSet> {
+    fn fmt<W: fmt::Write>(&self, f: &mut fmt::Formatter<W>) -> fmt::Result {
+        f.write_str("{")?;
+        for (i, right) in self.0.members().enumerate() {
+            if i > 0 {
+                f.write_str(" ")?;
+            }
+            write!(f, "{}", right.number())?;
         }
-        first = false;
+        f.write_str("}")
     }
-    f.write_str("}")
 }
 
-fn show_reply<W: fmt::Write>(reply: Reply, f: &mut fmt::Formatter<W>) -> fmt::Result {
-    match reply {
-        Reply::Made(object) => write!(f, "made {object}"),
-        Reply::Added(true) => f.write_str("added 1"),
-        Reply::Added(false) => f.write_str("added 0"),
-        Reply::Taken => f.write_str("taken"),
-        Reply::Never => f.write_str("never"),
-        Reply::Can(count) => write!(f, "can {count}"),
-        Reply::Refused(refusal) => {
-            let number = refusal.number();
-            write!(f, "refused {number}")
+impl fmt::Display for Shown<Reply> {
+    fn fmt<W: fmt::Write>(&self, f: &mut fmt::Formatter<W>) -> fmt::Result {
+        match self.0 {
+            Reply::Made(object) => write!(f, "made {object}"),
+            Reply::Added(new) => write!(f, "added {}", usize::from(new)),
+            Reply::Taken => f.write_str("taken"),
+            Reply::Never => f.write_str("never"),
+            Reply::Can(count) => write!(f, "can {count}"),
+            Reply::Refused(refusal) => write!(f, "refused {}", refusal.number()),
         }
     }
 }
 
 // The step as a line names it.
-fn show_step<W: fmt::Write>(step: Step, f: &mut fmt::Formatter<W>) -> fmt::Result {
-    match step {
-        Step::Create { subject, kind } => write!(f, "create {subject} {kind}"),
-        Step::Transform {
-            subject,
-            object,
-            right,
-        } => write!(f, "add {subject} {object} {right}"),
-        Step::Grant {
-            giver,
-            receiver,
-            object,
-            right,
-        } => write!(f, "give {giver} {receiver} {object} {right}"),
-        Step::Revoke {
-            owner,
-            loser,
-            object,
-            right,
-        } => write!(f, "revoke {owner} {loser} {object} {right}"),
-    }
-}
-
-fn show_told<W: fmt::Write>(told: &Told, f: &mut fmt::Formatter<W>) -> fmt::Result {
-    show_reply(told.reply, f)?;
-    for step in told.run.iter() {
-        f.write_str(" : ")?;
-        show_step(*step, f)?;
-    }
-    if told.touched {
-        f.write_str(" list-touched")?;
-    }
-    Ok(())
-}
-
-fn show_cells<W: fmt::Write>(cells: &[Holding], f: &mut fmt::Formatter<W>) -> fmt::Result {
-    if cells.is_empty() {
-        return f.write_str("nothing");
-    }
-    for (i, cell) in cells.iter().enumerate() {
-        if i > 0 {
-            f.write_str(" ")?;
+impl fmt::Display for Shown<Step> {
+    fn fmt<W: fmt::Write>(&self, f: &mut fmt::Formatter<W>) -> fmt::Result {
+        match self.0 {
+            Step::Create { subject, kind } => write!(f, "create {subject} {kind}"),
+            Step::Transform {
+                subject,
+                object,
+                right,
+            } => write!(f, "add {subject} {object} {right}"),
+            Step::Grant {
+                giver,
+                receiver,
+                object,
+                right,
+            } => write!(f, "give {giver} {receiver} {object} {right}"),
+            Step::Revoke {
+                owner,
+                loser,
+                object,
+                right,
+            } => write!(f, "revoke {owner} {loser} {object} {right}"),
         }
-        let subject = cell.subject;
-        let object = cell.object;
-        write!(f, "{subject}/{object}")?;
-        show_rights(cell.rights, f)?;
     }
-    Ok(())
+}
+
+impl fmt::Display for Told {
+    fn fmt<W: fmt::Write>(&self, f: &mut fmt::Formatter<W>) -> fmt::Result {
+        write!(f, "{}", Shown(self.reply))?;
+        for step in self.run.iter() {
+            write!(f, " : {}", Shown(*step))?;
+        }
+        if self.touched {
+            f.write_str(" list-touched")?;
+        }
+        Ok(())
+    }
+}
+
+impl fmt::Display for Holding {
+    fn fmt<W: fmt::Write>(&self, f: &mut fmt::Formatter<W>) -> fmt::Result {
+        write!(f, "{}/{}{}", self.subject, self.object, Shown(self.rights))
+    }
 }
 
 impl fmt::Display for Answer {
@@ -119,9 +112,18 @@ impl fmt::Display for Answer {
         match self {
             Answer::Accepted => f.write_str("ok"),
             Answer::Number(number) => write!(f, "{number}"),
-            Answer::Told(told) => show_told(told, f),
-            Answer::Cell(rights) => show_rights(*rights, f),
-            Answer::Cells(cells) => show_cells(cells.as_slice(), f),
+            Answer::Told(told) => write!(f, "{told}"),
+            Answer::Cell(rights) => write!(f, "{}", Shown(*rights)),
+            Answer::Cells(cells) if cells.is_empty() => f.write_str("nothing"),
+            Answer::Cells(cells) => {
+                for (i, cell) in cells.iter().enumerate() {
+                    if i > 0 {
+                        f.write_str(" ")?;
+                    }
+                    write!(f, "{cell}")?;
+                }
+                Ok(())
+            }
         }
     }
 }

@@ -10,7 +10,6 @@ use monitor::Step;
 use questions::RUN_PLACES;
 use safety::{Call, Question};
 use std::alloc::Global;
-use std::str::SplitWhitespace;
 
 // What a draft of a row book takes.
 #[derive(Drop)]
@@ -68,11 +67,9 @@ pub enum Command {
 
 // The numbers of a list, with blanks between them.
 fn read_numbers(heap: Global, text: &str) -> Result<Vec<usize>, Fault> {
-    let mut numbers = Vec::new(heap);
-    for word in text.split_whitespace() {
-        numbers.push(word.parse::<usize>()?)?;
-    }
-    Ok(numbers)
+    text.split_whitespace()
+        .map(|word| word.parse::<usize>().map_err(Fault::from))
+        .try_collect(heap)
 }
 
 // The two parts of a text around its first colon.
@@ -80,61 +77,41 @@ fn at_colon(text: &str) -> Result<(&str, &str), Fault> {
     text.split_once(':').ok_or(Fault::Unreadable)
 }
 
-fn read_creation(heap: Global, text: &str) -> Result<Declaration, Fault> {
-    let (types, gets) = at_colon(text)?;
-    let types = read_numbers(heap, types)?;
-    let gets = read_numbers(heap, gets)?;
-    match types.as_slice() {
-        [creator, object] => Ok(Declaration::Creation {
-            creator: *creator,
-            object: *object,
-            gets,
-        }),
-        _ => Err(Fault::Unreadable),
-    }
+// What a row needs and what it gives.
+fn read_need(heap: Global, text: &str) -> Result<(Vec<usize>, Vec<usize>), Fault> {
+    let (need, gives) = at_colon(text)?;
+    Ok((read_numbers(heap, need)?, read_numbers(heap, gives)?))
 }
 
-// What stands before the first colon of a row, between the two, and behind the second.
-#[derive(Drop)]
-struct RowLists {
-    types: Vec<usize>,
-    need: Vec<usize>,
-    gives: Vec<usize>,
-}
-
-fn read_lists(heap: Global, text: &str) -> Result<RowLists, Fault> {
+// A creation or a row: types, and the lists behind the first colon.
+fn read_row(heap: Global, name: &str, text: &str) -> Result<Declaration, Fault> {
     let (types, lists) = at_colon(text)?;
-    let (need, gives) = at_colon(lists)?;
-    Ok(RowLists {
-        types: read_numbers(heap, types)?,
-        need: read_numbers(heap, need)?,
-        gives: read_numbers(heap, gives)?,
-    })
-}
-
-fn read_transform(heap: Global, text: &str) -> Result<Declaration, Fault> {
-    let RowLists { types, need, gives } = read_lists(heap, text)?;
-    match types.as_slice() {
-        [subject, object] => Ok(Declaration::Transform {
-            subject: *subject,
-            object: *object,
-            need,
-            gives,
+    let types = read_numbers(heap, types)?;
+    match (name, types.as_slice()) {
+        ("creation", &[creator, object]) => Ok(Declaration::Creation {
+            creator,
+            object,
+            gets: read_numbers(heap, lists)?,
         }),
-        _ => Err(Fault::Unreadable),
-    }
-}
-
-fn read_grant(heap: Global, text: &str) -> Result<Declaration, Fault> {
-    let RowLists { types, need, gives } = read_lists(heap, text)?;
-    match types.as_slice() {
-        [giver, receiver, object] => Ok(Declaration::Grant {
-            giver: *giver,
-            receiver: *receiver,
-            object: *object,
-            need,
-            gives,
-        }),
+        ("transform", &[subject, object]) => {
+            let (need, gives) = read_need(heap, lists)?;
+            Ok(Declaration::Transform {
+                subject,
+                object,
+                need,
+                gives,
+            })
+        }
+        ("grant", &[giver, receiver, object]) => {
+            let (need, gives) = read_need(heap, lists)?;
+            Ok(Declaration::Grant {
+                giver,
+                receiver,
+                object,
+                need,
+                gives,
+            })
+        }
         _ => Err(Fault::Unreadable),
     }
 }
@@ -147,10 +124,7 @@ fn read_types<const N: usize>(text: &str) -> Result<[bool; N], Fault> {
     }
     for word in text.split(',') {
         let number = word.parse::<usize>()?;
-        if number >= N {
-            return Err(Fault::Unreadable);
-        }
-        chosen[number] = true;
+        *chosen.get_mut(number).ok_or(Fault::Unreadable)? = true;
     }
     Ok(chosen)
 }
@@ -173,129 +147,56 @@ fn read_fresh(text: &str) -> Result<FreshFlag, Fault> {
     }
 }
 
-// The next word of a line.
-fn next_word<'a>(words: &mut SplitWhitespace<'a>) -> Result<&'a str, Fault> {
-    words.next().ok_or(Fault::Unreadable)
-}
-
 fn read_settings(text: &str) -> Result<Settings, Fault> {
     let mut words = text.split_whitespace();
+    let mut word = || words.next().ok_or(Fault::Unreadable);
     let settings = Settings {
-        flags: next_word(&mut words)?.parse::<usize>()?,
-        givers: read_types(next_word(&mut words)?)?,
-        receivers: read_types(next_word(&mut words)?)?,
-        creators: read_types(next_word(&mut words)?)?,
-        served: read_types(next_word(&mut words)?)?,
-        strong: read_strong(next_word(&mut words)?)?,
-        fresh: read_fresh(next_word(&mut words)?)?,
+        flags: word()?.parse::<usize>()?,
+        givers: read_types(word()?)?,
+        receivers: read_types(word()?)?,
+        creators: read_types(word()?)?,
+        served: read_types(word()?)?,
+        strong: read_strong(word()?)?,
+        fresh: read_fresh(word()?)?,
     };
-    match words.next() {
-        None => Ok(settings),
-        Some(_) => Err(Fault::Unreadable),
+    if words.next().is_some() {
+        return Err(Fault::Unreadable);
     }
+    Ok(settings)
 }
 
-// A call without numbers.
-fn bare(name: &str) -> Option<Command> {
-    match name {
-        "book" => Some(Command::Book),
-        "right" => Some(Command::Declare(Declaration::Right)),
-        "subject-type" => Some(Command::Declare(Declaration::SubjectType)),
-        "object-type" => Some(Command::Declare(Declaration::ObjectType)),
-        "fix" => Some(Command::Fix),
-        "table" => Some(Command::Table),
-        "start" => Some(Command::Start),
-        "dump" => Some(Command::Dump),
+// A step and its numbers.
+fn step(name: &str, numbers: &[usize]) -> Option<Step> {
+    match (name, numbers) {
+        ("create", &[subject, kind]) => Some(Step::Create { subject, kind }),
+        ("add", &[subject, object, right]) => Some(Step::Transform {
+            subject,
+            object,
+            right,
+        }),
+        ("give", &[giver, receiver, object, right]) => Some(Step::Grant {
+            giver,
+            receiver,
+            object,
+            right,
+        }),
+        ("revoke", &[owner, loser, object, right]) => Some(Step::Revoke {
+            owner,
+            loser,
+            object,
+            right,
+        }),
         _ => None,
     }
 }
 
-// A call with one number.
-fn of_one(name: &str, number: usize) -> Option<Command> {
-    match name {
-        "owner" => Some(Command::Declare(Declaration::Owner(number))),
-        "subject" => Some(Command::Build(Building::Subject(number))),
-        "object" => Some(Command::Build(Building::Object(number))),
-        _ => None,
-    }
-}
-
-// A step. It wants no run list, and leaves the one that it is put with.
+// A step wants no run list, and leaves the one that it is put with.
 fn act(step: Step) -> Command
     ensures { result ≡ Command.Make (Act step) (list_places max_rights) }
 {
     Command::Make {
         call: Call::Act(step),
         places: RUN_PLACES,
-    }
-}
-
-// A call of a subject with one more number.
-fn of_two(name: &str, subject: usize, number: usize) -> Option<Command> {
-    match name {
-        "create" => Some(act(Step::Create {
-            subject,
-            kind: number,
-        })),
-        "cell" => Some(Command::Cell {
-            subject,
-            object: number,
-        }),
-        _ => None,
-    }
-}
-
-// A call of a subject, an object and a right.
-fn of_three(name: &str, subject: usize, object: usize, right: usize) -> Option<Command> {
-    match name {
-        "hold" => Some(Command::Build(Building::Hold {
-            subject,
-            object,
-            right,
-        })),
-        "add" => Some(act(Step::Transform {
-            subject,
-            object,
-            right,
-        })),
-        _ => None,
-    }
-}
-
-// A call of two subjects, an object and a right.
-fn of_four(
-    name: &str,
-    subject: usize,
-    other: usize,
-    object: usize,
-    right: usize,
-) -> Option<Command> {
-    match name {
-        "give" => Some(act(Step::Grant {
-            giver: subject,
-            receiver: other,
-            object,
-            right,
-        })),
-        "revoke" => Some(act(Step::Revoke {
-            owner: subject,
-            loser: other,
-            object,
-            right,
-        })),
-        _ => None,
-    }
-}
-
-// A call with numbers alone.
-fn plain(name: &str, numbers: &[usize]) -> Option<Command> {
-    match numbers {
-        [] => bare(name),
-        [a] => of_one(name, *a),
-        [a, b] => of_two(name, *a, *b),
-        [a, b, c] => of_three(name, *a, *b, *c),
-        [a, b, c, d] => of_four(name, *a, *b, *c, *d),
-        _ => None,
     }
 }
 
@@ -314,54 +215,62 @@ fn ask(question: Question, places: usize) -> Option<Command>
     })
 }
 
-// Whether a subject can ever hold a right for an object.
-fn ask_old(numbers: &[usize]) -> Option<Command> {
-    let (subject, object, right, places) = match numbers {
-        [s, o, r] => (*s, *o, *r, RUN_PLACES),
-        [s, o, r, p] => (*s, *o, *r, *p),
+// A question and its three numbers, and the places of its run list if they are named.
+fn question(name: &str, numbers: &[usize]) -> Option<Command> {
+    let (numbers, places) = numbers.split_at_checked(3)?;
+    let places = match places {
+        [] => RUN_PLACES,
+        [places] => *places,
         _ => return None,
     };
-    ask(
-        Question::Can {
+    let question = match (name, numbers) {
+        ("can", &[subject, object, right]) => Question::Can {
             subject,
             object,
             right,
         },
-        places,
-    )
-}
-
-// Whether a subject can ever hold a right for some new object of a type.
-fn ask_new(numbers: &[usize]) -> Option<Command> {
-    let (subject, kind, right, places) = match numbers {
-        [s, t, r] => (*s, *t, *r, RUN_PLACES),
-        [s, t, r, p] => (*s, *t, *r, *p),
-        _ => return None,
-    };
-    ask(
-        Question::CanNew {
+        ("can-new", &[subject, kind, right]) => Question::CanNew {
             subject,
             kind,
             right,
         },
-        places,
-    )
+        _ => return None,
+    };
+    ask(question, places)
+}
+
+// A call with numbers alone.
+fn plain(name: &str, numbers: &[usize]) -> Option<Command> {
+    match (name, numbers) {
+        ("book", []) => Some(Command::Book),
+        ("right", []) => Some(Command::Declare(Declaration::Right)),
+        ("subject-type", []) => Some(Command::Declare(Declaration::SubjectType)),
+        ("object-type", []) => Some(Command::Declare(Declaration::ObjectType)),
+        ("owner", &[right]) => Some(Command::Declare(Declaration::Owner(right))),
+        ("fix", []) => Some(Command::Fix),
+        ("table", []) => Some(Command::Table),
+        ("subject", &[kind]) => Some(Command::Build(Building::Subject(kind))),
+        ("object", &[kind]) => Some(Command::Build(Building::Object(kind))),
+        ("hold", &[subject, object, right]) => Some(Command::Build(Building::Hold {
+            subject,
+            object,
+            right,
+        })),
+        ("start", []) => Some(Command::Start),
+        ("cell", &[subject, object]) => Some(Command::Cell { subject, object }),
+        ("dump", []) => Some(Command::Dump),
+        ("can" | "can-new", _) => question(name, numbers),
+        _ => step(name, numbers).map(act),
+    }
 }
 
 impl Command {
     pub fn read(heap: Global, line: &str) -> Result<Command, Fault> {
         let (name, rest) = line.split_once(' ').unwrap_or((line, ""));
         match name {
-            "creation" => Ok(Command::Declare(read_creation(heap, rest)?)),
-            "transform" => Ok(Command::Declare(read_transform(heap, rest)?)),
-            "grant" => Ok(Command::Declare(read_grant(heap, rest)?)),
+            "creation" | "transform" | "grant" => Ok(Command::Declare(read_row(heap, name, rest)?)),
             "flags" => Ok(Command::Flags(read_settings(rest)?)),
-            "can" => ask_old(read_numbers(heap, rest)?.as_slice()).ok_or(Fault::Unreadable),
-            "can-new" => ask_new(read_numbers(heap, rest)?.as_slice()).ok_or(Fault::Unreadable),
-            _ => {
-                let numbers = read_numbers(heap, rest)?;
-                plain(name, numbers.as_slice()).ok_or(Fault::Unreadable)
-            }
+            _ => plain(name, &read_numbers(heap, rest)?).ok_or(Fault::Unreadable),
         }
     }
 }

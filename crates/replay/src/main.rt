@@ -28,13 +28,14 @@
 //     cell S O                        what S holds for O                           {R ..} in order of number
 //     dump                            all cells that are not empty                 S/O{R ..} .., or nothing
 //
-// A step or a question is made with a run list of 2049 places. A question may name another number of places, at most 4096,
-// behind its other numbers. The K steps of a shown run are written as lines name them. Before the call each place holds one
-// marker step, and the answer ends with ` list-touched` if a place behind the shown run does not hold it after the call.
+// A step or a question is made with a run list of 2049 places. A question may name another number of places, at most
+// 4096, behind its other numbers. The K steps of a shown run are written as lines name them. Before the call each place
+// holds one marker step, and the answer ends with ` list-touched` if a place behind the shown run does not hold it
+// after the call.
 //
-// A refused call answers `refused` and the number of the refusal. A line that names no call, or a call for which the draft,
-// the book or the table is missing, answers `unreadable`, and nothing else happens. An empty line and a line that begins
-// with `#` are printed as they are. Bytes that are no text are read and printed as U+FFFD.
+// A refused call answers `refused` and the number of the refusal. A line that names no call, or a call for which the
+// draft, the book or the table is missing, answers `unreadable`, and nothing else happens. An empty line and a line
+// that begins with `#` are printed as they are. Bytes that are no text are read and printed as U+FFFD.
 #![tactic(auto)]
 
 mod answer;
@@ -54,10 +55,7 @@ fn reply<W: Write>(out: &mut W, session: &mut Session, line: &str) -> io::Result
     }
     match session.answer(line) {
         Ok(answer) => writeln!(out, "{line} -> {answer}"),
-        Err(Fault::Refused(refusal)) => {
-            let number = refusal.number();
-            writeln!(out, "{line} -> refused {number}")
-        }
+        Err(Fault::Refused(refusal)) => writeln!(out, "{line} -> refused {}", refusal.number()),
         Err(Fault::Unreadable) => writeln!(out, "{line} -> unreadable"),
         Err(Fault::Memory(e)) => Err(e.into()),
     }

@@ -1,10 +1,7 @@
 // The drafts, the book and the table that the calls are made on.
-ghost use Rattle.std.specs.Prelude.{◌≡◌, min, true, length, take, replicate, IfOk, None, Err, OnOk};
-ghost use Rattle.std.specs.List.{AllByRecursion};
+ghost use Rattle.std.specs.Prelude.{◌≡◌, ◌↔◌, min, length, take, replicate, All, IsTrue, IfOk, None, Err, OnOk};
 ghost use Rattle.rights.specs.Limits.{max_rights};
-ghost use Rattle.rows.specs.Books.{declared_of};
 ghost use Rattle.monitor.specs.declared.step.Step.TheVariants.{Create};
-ghost use Rattle.monitor.specs.Grids.{state_of};
 ghost use Rattle.safety.specs.Questions.{called};
 ghost use Rattle.replay.specs.declared.fault.Fault.TheVariants.{Unreadable};
 ghost use Rattle.replay.specs.Calls.{rules_in, built, declared_by, shown_length};
@@ -16,7 +13,6 @@ use flags::CopyFlagBook;
 use monitor::{Step, Table, TableDraft};
 use questions::perform;
 use rights::Refusal;
-use rights::limits::{MAX_OBJECTS, MAX_SUBJECTS};
 use rows::{Draft, RowBook};
 use safety::{Call, Reply};
 use std::alloc::{AllocError, Global};
@@ -40,7 +36,7 @@ pub struct Session {
 }
 
 fn declare(draft: &mut Draft, declaration: Declaration) -> Result<Answer, Refusal>
-    ensures { (declared_of draft.new, result) ≡ declared_by (declared_of draft.old) declaration }
+    ensures { (draft.new, result) ≡ declared_by draft.old declaration }
 {
     match declaration {
         Declaration::Right => return Ok(Answer::Number(draft.add_right()?)),
@@ -70,7 +66,7 @@ fn declare(draft: &mut Draft, declaration: Declaration) -> Result<Answer, Refusa
 }
 
 fn build(draft: &mut TableDraft, building: Building) -> Result<Answer, Refusal>
-    ensures { (state_of draft.new.grid, result) ≡ built (state_of draft.old.grid) building }
+    ensures { (draft.new, result) ≡ built draft.old building }
 {
     match building {
         Building::Subject(kind) => Ok(Answer::Number(draft.add_subject(kind)?)),
@@ -88,7 +84,7 @@ fn build(draft: &mut TableDraft, building: Building) -> Result<Answer, Refusal>
 
 // The call under the current book.
 fn make(table: &mut Table, book: &Book, call: Call, run: &mut [Step]) -> Reply
-    ensures { (state_of table.new.grid, run.new, result) ≡ called max_rights (rules_in book.now) (state_of table.old.grid) call run.old }
+    ensures { (table.new, run.new, result) ≡ called max_rights (rules_in book.now) table.old call run.old }
 {
     match book {
         Book::Rows(rows) => perform(table, rows, call, run),
@@ -101,19 +97,6 @@ const MARKER: Step = Step::Create {
     subject: 7,
     kind: 7,
 };
-
-fn is_marker(step: Step) -> bool
-    ensures yes { result ≡ true → step ≡ Create 7 7 }
-    ensures no { step ≡ Create 7 7 → result ≡ true }
-{
-    matches!(
-        step,
-        Step::Create {
-            subject: 7,
-            kind: 7
-        }
-    )
-}
 
 // The list gets so many places, with the marker in each.
 fn refill(list: &mut Vec<Step>, places: usize) -> Result<(), AllocError>
@@ -136,14 +119,9 @@ fn shown_length(reply: Reply) -> usize
 
 // Does each of these places hold the marker?
 fn all_marked(places: &[Step]) -> bool
-    ensures { result ≡ true → AllByRecursion (λ s. s ≡ Create 7 7) places.now }
+    ensures { IsTrue result ↔ All (λ s. s ≡ Create 7 7) places.now }
 {
-    for step in places {
-        if !is_marker(*step) {
-            return false;
-        }
-    }
-    true
+    places.iter().all(|step| *step == MARKER)
 }
 
 // The reply with what the call left in the run list: the shown run in the first places, and the marker in the others.
@@ -162,11 +140,9 @@ fn tell(heap: Global, reply: Reply, list: &[Step]) -> Result<Told, AllocError>
 // The cells that are not empty, by subject and then by object.
 fn holdings(heap: Global, table: &Table) -> Result<Vec<Holding>, AllocError> {
     let mut all = Vec::new(heap);
-    for subject in 0..MAX_SUBJECTS {
-        for object in 0..MAX_OBJECTS {
-            let Ok(rights) = table.cell(subject, object) else {
-                break;
-            };
+    for subject in 0..table.subject_types().len() {
+        for object in 0..table.objects() {
+            let rights = table.cell(subject, object).unwrap();
             if !rights.is_empty() {
                 all.push(Holding {
                     subject,
@@ -227,9 +203,7 @@ impl Session {
         ensures same { (self.new.book ≡ self.old.book) × (self.new.building ≡ self.old.building) × (self.new.table ≡ self.old.table) }
         ensures idle { result ≡ Err Unreadable → self.new ≡ self.old }
     {
-        let Some(draft) = &mut self.draft else {
-            return Err(Fault::Unreadable);
-        };
+        let draft = self.draft.as_mut().ok_or(Fault::Unreadable)?;
         Ok(declare(draft, declaration)?)
     }
 
@@ -256,9 +230,7 @@ impl Session {
         ensures same { (self.new.draft ≡ self.old.draft) × (self.new.book ≡ self.old.book) × (self.new.table ≡ self.old.table) }
         ensures idle { result ≡ Err Unreadable → self.new ≡ self.old }
     {
-        let Some(draft) = &mut self.building else {
-            return Err(Fault::Unreadable);
-        };
+        let draft = self.building.as_mut().ok_or(Fault::Unreadable)?;
         Ok(build(draft, building)?)
     }
 
@@ -277,28 +249,20 @@ impl Session {
         ensures same { (self.new.draft ≡ self.old.draft) × (self.new.book ≡ self.old.book) × (self.new.building ≡ self.old.building) }
         ensures idle { result ≡ Err Unreadable → self.new ≡ self.old }
     {
-        let Some(book) = &self.book else {
-            return Err(Fault::Unreadable);
-        };
-        let Some(table) = &mut self.table else {
-            return Err(Fault::Unreadable);
-        };
+        let book = self.book.as_ref().ok_or(Fault::Unreadable)?;
+        let table = self.table.as_mut().ok_or(Fault::Unreadable)?;
         refill(&mut self.run, places)?;
         let reply = make(table, book, call, self.run.as_mut_slice());
         Ok(Answer::Told(tell(self.heap, reply, self.run.as_slice())?))
     }
 
     fn cell(&self, subject: usize, object: usize) -> Result<Answer, Fault> {
-        let Some(table) = &self.table else {
-            return Err(Fault::Unreadable);
-        };
+        let table = self.table.as_ref().ok_or(Fault::Unreadable)?;
         Ok(Answer::Cell(table.cell(subject, object)?))
     }
 
     fn dump(&self) -> Result<Answer, Fault> {
-        let Some(table) = &self.table else {
-            return Err(Fault::Unreadable);
-        };
+        let table = self.table.as_ref().ok_or(Fault::Unreadable)?;
         Ok(Answer::Cells(holdings(self.heap, table)?))
     }
 }

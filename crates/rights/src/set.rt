@@ -1,27 +1,37 @@
 // Sets of rights: a binary digit for each right, seen by nobody outside this file.
 ghost use Rattle.std.specs.Prelude.{◌≡◌, ◌==◌};
-ghost use Rattle.std.specs.Option.{option_map};
 ghost use Rattle.rights.specs.Limits.{max_rights};
 ghost use Rattle.rights.specs.Sets.{has, add, remove, either, inside, below, nothing, lowest_right, leave_out};
 ghost use Rattle.std.specs.Iterator.{at_most};
 
-use crate::rights::Right;
+use crate::number::Right;
+use std::marker::Model;
 
 #[derive(Clone, Copy, PartialEq, Eq)]
 pub struct RightSet {
     bits: u32,
 }
 
+impl Model for RightSet {
+    ghost use Rattle.std.specs.Prelude.{ℕ};
+
+    ghost Value = { ℕ };
+
+    ghost view = { λ s. s.bits };
+
+    ghost inverse = { λ n. record { bits = n } };
+}
+
 impl RightSet {
     pub fn empty() -> RightSet
-        ensures { result.bits ≡ nothing }
+        ensures { result ≡ nothing }
     {
         RightSet { bits: 0 }
     }
 
     // The rights below this one.
     pub fn below(right: Right) -> RightSet
-        ensures { result.bits ≡ below right.number }
+        ensures { result ≡ below right }
     {
         RightSet {
             bits: (1 << right.number()) - 1,
@@ -29,19 +39,19 @@ impl RightSet {
     }
 
     pub fn is_empty(self) -> bool
-        ensures { result ≡ (self.bits == nothing) }
+        ensures { result ≡ (self == nothing) }
     {
         self.bits == 0
     }
 
     pub fn contains(self, right: Right) -> bool
-        ensures { result ≡ has self.bits right.number }
+        ensures { result ≡ has self right }
     {
         (self.bits >> right.number()) & 1 == 1
     }
 
     pub fn with(self, right: Right) -> RightSet
-        ensures { result.bits ≡ add self.bits right.number }
+        ensures { result ≡ add self right }
     {
         RightSet {
             bits: self.bits | (1 << right.number()),
@@ -49,7 +59,7 @@ impl RightSet {
     }
 
     pub fn without(self, right: Right) -> RightSet
-        ensures { result.bits ≡ remove self.bits right.number }
+        ensures { result ≡ remove self right }
     {
         if self.contains(right) {
             RightSet {
@@ -61,7 +71,7 @@ impl RightSet {
     }
 
     pub fn union(self, other: RightSet) -> RightSet
-        ensures { result.bits ≡ either self.bits other.bits }
+        ensures { result ≡ either self other }
     {
         RightSet {
             bits: self.bits | other.bits,
@@ -70,13 +80,13 @@ impl RightSet {
 
     // Is each right of this set in the other?
     pub fn is_within(self, other: RightSet) -> bool
-        ensures { result ≡ inside self.bits other.bits }
+        ensures { result ≡ inside self other }
     {
         self.bits & other.bits == self.bits
     }
 
     pub fn lowest(self) -> Option<Right>
-        ensures { option_map (λ x. x.number) result ≡ lowest_right max_rights self.bits }
+        ensures { result ≡ lowest_right max_rights self }
     {
         if self.bits == 0 {
             return None;
@@ -102,9 +112,9 @@ pub struct Members {
 impl Iterator for Members {
     type Item = Right;
 
-    ghost next_gives = { λ s r t. (option_map (λ x. x.number) r ≡ lowest_right max_rights s.rest.bits) × (t.rest.bits ≡ leave_out s.rest.bits (lowest_right max_rights s.rest.bits)) };
+    ghost next_gives = { λ s r t. (r ≡ lowest_right max_rights s.rest) × (t.rest ≡ leave_out s.rest (lowest_right max_rights s.rest)) };
 
-    ghost remaining = { λ s. at_most s.rest.bits };
+    ghost remaining = { λ s. at_most s.rest };
 
     fn next(&mut self) -> Option<Right> {
         let right = self.rest.lowest()?;

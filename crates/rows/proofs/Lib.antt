@@ -1,3 +1,3 @@
-mod Turns
+mod Unions
 pub mod Numbers
 mod Pairs

@@ -1,7 +1,11 @@
 -- Lists of numbers: one more at the end, as a set, and that a list with nothing twice is short.
-use Rattle.std.proofs.Common.{◌≡◌, ℕ, zero, suc, ◌+◌, ◌<◌, ◌≤◌, Bool, true, false, not, ◌||◌, T, eqb, ltb, List, [], ◌∷◌, ◌++◌, length, get_or, take, drop, sym, refl, ap, ◌∙◌, subst, inl, inr, arith}
+use Rattle.std.proofs.Common.{◌≡◌, ℕ, ◌+◌, ◌<◌, ◌≤◌, Bool, true, false, not, ◌||◌, T, eqb, ltb, List, [], ◌∷◌, ◌++◌, length, get_or, take, drop, sym, refl, ap, ◌∙◌, subst, inl, inr, arith}
+use Rattle.std.proofs.Math.Bool.{or_comm}
 use Rattle.std.proofs.lemmas.List.{take_more, take-append-drop}
-use Rattle.std.proofs.lemmas.Bool.{and_parts, and_from, or_cases, or_parts, or_left, or_right, ltb-true, lt-ltb, eq-eqb, ne_eqb, cases_eq}
+use Rattle.std.proofs.lemmas.List.Folds.{list_any-append}
+use Rattle.std.proofs.lemmas.List.Recursion.{or_push}
+use Rattle.std.proofs.lemmas.List.Sums.{AllPass-from_list_all, list_all-from_AllPass}
+use Rattle.std.proofs.lemmas.Bool.{and_parts, or_cases, or_parts, or_left, or_right, ltb-true, lt-ltb, eq-eqb, ne_eqb, cases_eq, false≢true}
 use Rattle.rights.specs.Sets.{nothing, has, add}
 use Rattle.rights.proofs.Digits.{has_none}
 use Rattle.rights.proofs.SetLaws.{added, add_comm}
@@ -9,40 +13,24 @@ use Rattle.rights.proofs.Counting.{lacks, lacks_le, lacks_add_lt}
 use Rattle.rows.specs.Lists.{listed, twice, all_below, set_of}
 
 pub all_below_more : (m n : ℕ) → m ≤ n → (xs : List ℕ) → all_below m xs ≡ true → all_below n xs ≡ true
-all_below_more m n l [] h = refl
-all_below_more m n l (x ∷ xs) h =
-    let p = and_parts (ltb x m) (all_below m xs) h in
-    and_from (ltb x n) (all_below n xs) (lt-ltb x n (let q = ltb-true x m p.0 in omega arith)) (all_below_more m n l xs p.1)
-
-pub all_below_at : (n : ℕ) (xs : List ℕ) (i : ℕ) → i < length xs → all_below n xs ≡ true → get_or xs i 0 < n
-all_below_at n [] i l h = absurd (omega arith)
-all_below_at n (x ∷ xs) zero l h = ltb-true x n (and_parts (ltb x n) (all_below n xs) h).0
-all_below_at n (x ∷ xs) (suc i) l h = all_below_at n xs i (omega arith) (and_parts (ltb x n) (all_below n xs) h).1
+all_below_more m n l xs h =
+    list_all-from_AllPass (λ x. ltb x n) xs (λ k d i. lt-ltb _ n
+    (let small = ltb-true (get_or xs k d) m (AllPass-from_list_all (λ x. ltb x m) xs h k d i) in omega arith))
 
 -- the set of a list has what the list has
 eqb_comm : (x y : ℕ) → eqb x y ≡ eqb y x
 eqb_comm x y = elim (cases_eq x y) [ inl e ↦ eq-eqb x y e ∙ sym (eq-eqb y x (sym e)) | inr ne ↦ ne_eqb x y ne ∙ sym (ne_eqb y x (λ e. ne (sym e))) ]
 
-or_comm : (a b : Bool) → (a || b) ≡ (b || a)
-or_comm true true = refl
-or_comm true false = refl
-or_comm false true = refl
-or_comm false false = refl
-
 pub set_of_has : (xs : List ℕ) (x : ℕ) → has (set_of xs) x ≡ listed x xs
 set_of_has [] x = has_none x
 set_of_has (y ∷ ys) x = added (set_of ys) y x ∙ ap (λ b. b || eqb x y) (set_of_has ys x) ∙ or_comm (listed x ys) (eqb x y)
 
-pub set_of_push : (xs : List ℕ) (x : ℕ) → set_of (xs ++ x ∷ []) ≡ add (set_of xs) x
+set_of_push : (xs : List ℕ) (x : ℕ) → set_of (xs ++ x ∷ []) ≡ add (set_of xs) x
 set_of_push [] x = refl
 set_of_push (y ∷ ys) x = ap (λ s. add s y) (set_of_push ys x) ∙ add_comm (set_of ys) x y
 
 listed_push : (z : ℕ) (xs : List ℕ) (x : ℕ) → listed z (xs ++ x ∷ []) ≡ (listed z xs || eqb z x)
-listed_push z [] x = or_comm (eqb z x) false
-listed_push z (y ∷ ys) x = ap (λ b. eqb z y || b) (listed_push z ys x) ∙ regroup (eqb z y) (listed z ys) (eqb z x) where
-  regroup : (a b c : Bool) → (a || (b || c)) ≡ ((a || b) || c)
-  regroup true b c = refl
-  regroup false b c = refl
+listed_push z xs x = or_push (listed z) (eqb z) refl (λ _ _. refl) xs x
 
 shuffle : (a e t h : Bool) → ((a || e) || (t || h)) ≡ ((a || t) || (e || h))
 shuffle true e t h = refl
@@ -56,19 +44,11 @@ twice_push (y ∷ ys) x =
     ap (λ b. b || twice (ys ++ x ∷ [])) (listed_push y ys x) ∙ ap (λ b. (listed y ys || eqb y x) || b) (twice_push ys x)
     ∙ shuffle (listed y ys) (eqb y x) (twice ys) (listed x ys) ∙ ap (λ b. (listed y ys || twice ys) || (b || listed x ys)) (eqb_comm y x)
 
-listed_front : (z : ℕ) (xs ys : List ℕ) → listed z xs ≡ true → listed z (xs ++ ys) ≡ true
-listed_front z [] ys h = absurd (let e : ◌≡◌ {A = ℕ} 0 1 = cc in omega arith)
-listed_front z (x ∷ xs) ys h =
-    elim (or_cases (eqb z x) (listed z xs) h) [
-      | inl e ↦ or_left (eqb z x) (listed z (xs ++ ys)) e
-      | inr e ↦ or_right (eqb z x) (listed z (xs ++ ys)) (listed_front z xs ys e)
-    ]
-
 twice_front : (xs ys : List ℕ) → twice xs ≡ true → twice (xs ++ ys) ≡ true
-twice_front [] ys h = absurd (let e : ◌≡◌ {A = ℕ} 0 1 = cc in omega arith)
+twice_front [] ys h = absurd (false≢true h)
 twice_front (x ∷ xs) ys h =
     elim (or_cases (listed x xs) (twice xs) h) [
-      | inl e ↦ or_left (listed x (xs ++ ys)) (twice (xs ++ ys)) (listed_front x xs ys e)
+      | inl e ↦ or_left (listed x (xs ++ ys)) (twice (xs ++ ys)) (list_any-append (eqb x) xs ys ∙ or_left (listed x xs) (listed x ys) e)
       | inr e ↦ or_right (listed x (xs ++ ys)) (twice (xs ++ ys)) (twice_front xs ys e)
     ]
 

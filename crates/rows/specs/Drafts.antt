@@ -1,12 +1,12 @@
 -- A draft of a rule book, by number, and its declarations. Each is refused by the first test that fails, in the order
 -- 10, 8, 9, 20; a refused one leaves the draft as it was.
-use Rattle.std.specs.Prelude.{ℕ, ◌+◌, Bool, true, not, ◌&&◌, ◌||◌, List, [], length, is_some, Some, None, Ok, Err, Option, Result, ◌==◌, nat_lt}
+use Rattle.std.specs.Prelude.{ℕ, ◌+◌, Bool, true, not, ◌&&◌, ◌||◌, List, length, is_some, Some, None, Ok, Err, Option, Result, ◌==◌, nat_lt}
 use Rattle.rights.specs.Limits.{max_rights, max_subject_types, max_object_types, max_rows}
 use Rattle.rights.specs.Refusals.{demand, settle}
 use Rattle.rights.specs.declared.refusal.Refusal.{Refusal}
 use Rattle.rights.specs.declared.refusal.Refusal.TheVariants.{Repeated, EmptyNeed, OutOfRange, LimitReached}
 use Rattle.rows.specs.Lists.{twice, all_below, set_of}
-use Rattle.rows.specs.Rules.{Rule, Book, created, more_rules, more_creations}
+use Rattle.rows.specs.Rules.{Rule, Book, empty_book, created, more_rules, more_creations, marked}
 
 -- how many rights and types are declared: these numbers may be used
 pub record Counts : Type 0 where
@@ -21,27 +21,28 @@ pub record Declared : Type 0 where
 abbrev pub nothing_declared : Declared
 nothing_declared = record {
   counts = record { rights = 0; subject_types = 0; object_types = 0 };
-  book = record { rules = []; creations = []; mark = None };
+  book = empty_book;
 }
 
--- one more right, one more type; the answer is its number
+-- one more of a kind, unless there are as many as there may be; the answer is its number
+abbrev pub declare_one : Declared → ℕ → ℕ → Counts → Declared × Result ℕ Refusal
+declare_one d n limit counts =
+    settle d (demand (nat_lt n limit) LimitReached (Ok (record { counts = counts; book = d.book }, n)))
+
 abbrev pub declare_right : Declared → Declared × Result ℕ Refusal
 declare_right d =
-    settle d
-    (demand (nat_lt d.counts.rights max_rights) LimitReached
-    (Ok (record { counts = record { rights = d.counts.rights + 1; subject_types = d.counts.subject_types; object_types = d.counts.object_types }; book = d.book }, d.counts.rights)))
+    declare_one d d.counts.rights max_rights
+    (record { rights = d.counts.rights + 1; subject_types = d.counts.subject_types; object_types = d.counts.object_types })
 
 abbrev pub declare_subject_type : Declared → Declared × Result ℕ Refusal
 declare_subject_type d =
-    settle d
-    (demand (nat_lt d.counts.subject_types max_subject_types) LimitReached
-    (Ok (record { counts = record { rights = d.counts.rights; subject_types = d.counts.subject_types + 1; object_types = d.counts.object_types }; book = d.book }, d.counts.subject_types)))
+    declare_one d d.counts.subject_types max_subject_types
+    (record { rights = d.counts.rights; subject_types = d.counts.subject_types + 1; object_types = d.counts.object_types })
 
 abbrev pub declare_object_type : Declared → Declared × Result ℕ Refusal
 declare_object_type d =
-    settle d
-    (demand (nat_lt d.counts.object_types max_object_types) LimitReached
-    (Ok (record { counts = record { rights = d.counts.rights; subject_types = d.counts.subject_types; object_types = d.counts.object_types + 1 }; book = d.book }, d.counts.object_types)))
+    declare_one d d.counts.object_types max_object_types
+    (record { rights = d.counts.rights; subject_types = d.counts.subject_types; object_types = d.counts.object_types + 1 })
 
 -- the right that marks an owner
 abbrev pub declare_owner : Declared → ℕ → Declared × Result (Unit {0}) Refusal
@@ -49,7 +50,7 @@ declare_owner d r =
     settle d
     (demand (nat_lt r d.counts.rights) OutOfRange
     (demand (not (is_some d.book.mark)) Repeated
-    (Ok (record { counts = d.counts; book = record { rules = d.book.rules; creations = d.book.creations; mark = Some r } }, tt))))
+    (Ok (record { counts = d.counts; book = marked d.book r }, tt))))
 
 -- what a creator of type u gets for a new object of type o
 abbrev pub declare_creation : Declared → ℕ → ℕ → List ℕ → Declared × Result (Unit {0}) Refusal

@@ -1,33 +1,34 @@
 -- What rules give together: one more at a time, more for who holds more, and which rule gave it.
-use Rattle.std.specs.Prelude.{◌≡◌, ℕ, zero, suc, ◌<◌, Bool, true, false, cond, ◌&&◌, T, List, [], ◌∷◌, length, Some, None, Option, ◌==◌, slice_index_or, refl}
+use Rattle.std.specs.Prelude.{◌≡◌, ℕ, zero, suc, ◌<◌, Bool, true, false, cond, ◌&&◌, T, List, [], ◌∷◌, length, Some, None, Option, ◌==◌, nat_eq, slice_index_or, refl}
 use Rattle.std.proofs.Common.{sym, ap, subst, inl, inr, arith, le_of_suc-le-suc, eqb→eq}
 use Rattle.std.proofs.Math.Dec.{eqb_refl}
+use Rattle.std.specs.Option.{option_eq}
 use Rattle.rights.specs.Sets.{nothing, has, inside, Within}
 use Rattle.rights.proofs.Truth.{T_and, and_T, t_or, or_T_left, or_T_right}
 use Rattle.rights.proofs.SetLaws.{joined, none_has, either_within, when_within, inside_within, within_inside}
 use Rattle.books.specs.Meaning.{Lawful}
-use Rattle.rows.specs.Rules.{Rule, Book, same_receiver, applies, gathered, book_meaning, no_rule, Gives, Given, RulesMean}
+use Rattle.rows.specs.Rules.{Rule, Book, applies, gathered, book_meaning, no_rule, Gives, Given, RulesMean}
 
-pub same_receiver_eq : (a b : Option ℕ) → T (same_receiver a b) → a ≡ b
-same_receiver_eq None None t = refl
-same_receiver_eq None (Some v) t = absurd t
-same_receiver_eq (Some u) None t = absurd t
-same_receiver_eq (Some u) (Some v) t = ap Some (eqb→eq u v t)
+same_option : (a b : Option ℕ) → T (option_eq nat_eq a b) → a ≡ b
+same_option None None t = refl
+same_option None (Some v) t = absurd t
+same_option (Some u) None t = absurd t
+same_option (Some u) (Some v) t = ap Some (eqb→eq u v t)
 
-same_receiver_refl : (a : Option ℕ) → T (same_receiver a a)
-same_receiver_refl None = tt
-same_receiver_refl (Some u) = eqb_refl u
+option_refl : (a : Option ℕ) → T (option_eq nat_eq a a)
+option_refl None = tt
+option_refl (Some u) = eqb_refl u
 
 module _ (u : ℕ) (receiver : Option ℕ) (o : ℕ) where
   -- the test as it stands, taken apart and put together
   applies_parts : (held : ℕ) (rule : Rule) → T (applies u receiver o held rule)
-      → T (rule.by == u && same_receiver rule.receiver receiver && rule.on == o) × T (inside rule.need held)
-  applies_parts held rule = T_and (rule.by == u && same_receiver rule.receiver receiver && rule.on == o) (inside rule.need held)
+      → T (rule.by == u && option_eq nat_eq rule.receiver receiver && rule.on == o) × T (inside rule.need held)
+  applies_parts held rule = T_and (rule.by == u && option_eq nat_eq rule.receiver receiver && rule.on == o) (inside rule.need held)
 
   applies_more : (held more : ℕ) → Within held more → (rule : Rule) → T (applies u receiver o held rule) → T (applies u receiver o more rule)
   applies_more held more w rule t =
       let p = applies_parts held rule t in
-      and_T (rule.by == u && same_receiver rule.receiver receiver && rule.on == o) (inside rule.need more) p.0
+      and_T (rule.by == u && option_eq nat_eq rule.receiver receiver && rule.on == o) (inside rule.need more) p.0
       (within_inside rule.need more (λ r h. w r (inside_within rule.need held p.1 r h)))
 
   pub gathered_more : (held more : ℕ) → Within held more → (rules : List Rule) → Within (gathered u receiver o held rules) (gathered u receiver o more rules)
@@ -44,11 +45,11 @@ module _ (u : ℕ) (receiver : Option ℕ) (o : ℕ) where
       from false e g = absurd (none_has r g)
       from true e g =
           let p = applies_parts held rule (subst T (sym e) tt) in
-          let q = T_and (rule.by == u && same_receiver rule.receiver receiver) (rule.on == o) p.0 in
-          let s = T_and (rule.by == u) (same_receiver rule.receiver receiver) q.0 in
+          let q = T_and (rule.by == u && option_eq nat_eq rule.receiver receiver) (rule.on == o) p.0 in
+          let s = T_and (rule.by == u) (option_eq nat_eq rule.receiver receiver) q.0 in
           record {
             its_by = eqb→eq rule.by u s.0;
-            its_receiver = same_receiver_eq rule.receiver receiver s.1;
+            its_receiver = same_option rule.receiver receiver s.1;
             its_on = eqb→eq rule.on o q.1;
             its_need = inside_within rule.need held p.1;
             its_gift = g;
@@ -57,11 +58,11 @@ module _ (u : ℕ) (receiver : Option ℕ) (o : ℕ) where
     gives_to : (rule : Rule) → Gives u receiver o held r rule → T (has (cond (applies u receiver o held rule) rule.gives nothing) r)
     gives_to rule g =
         let t : T (applies u receiver o held rule)
-        = and_T (rule.by == u && same_receiver rule.receiver receiver && rule.on == o) (inside rule.need held)
-        (and_T (rule.by == u && same_receiver rule.receiver receiver) (rule.on == o)
-        (and_T (rule.by == u) (same_receiver rule.receiver receiver)
+        = and_T (rule.by == u && option_eq nat_eq rule.receiver receiver && rule.on == o) (inside rule.need held)
+        (and_T (rule.by == u && option_eq nat_eq rule.receiver receiver) (rule.on == o)
+        (and_T (rule.by == u) (option_eq nat_eq rule.receiver receiver)
         (subst (λ x. T (rule.by == x)) g.its_by (eqb_refl rule.by))
-        (subst (λ x. T (same_receiver rule.receiver x)) g.its_receiver (same_receiver_refl rule.receiver)))
+        (subst (λ x. T (option_eq nat_eq rule.receiver x)) g.its_receiver (option_refl rule.receiver)))
         (subst (λ x. T (rule.on == x)) g.its_on (eqb_refl rule.on)))
         (within_inside rule.need held g.its_need) in
         to (applies u receiver o held rule) t where

@@ -1,6 +1,5 @@
 pub mod Lists
 pub mod Rules
+pub mod Room
 pub mod Drafts
-pub mod Views
-pub mod Books
 pub mod Gathering

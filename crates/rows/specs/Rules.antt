@@ -1,5 +1,7 @@
 -- Rules, by number, and what a book of rules means.
-use Rattle.std.specs.Prelude.{◌≡◌, ℕ, ◌<◌, Bool, true, false, cond, ◌&&◌, T, List, [], ◌∷◌, ◌++◌, length, Some, None, Option, ◌==◌, slice_index_or}
+use Rattle.std.specs.Prelude.{◌≡◌, ℕ, ◌<◌, Bool, cond, ◌&&◌, T, List, [], ◌∷◌, ◌++◌, length, Some, None, Option, ◌==◌, nat_eq, slice_index_or}
+use Rattle.std.specs.List.{find}
+use Rattle.std.specs.Option.{option_eq, option_map}
 use Rattle.rights.specs.Sets.{nothing, has, either, inside, Within}
 use Rattle.books.specs.Meaning.{Meaning}
 
@@ -29,16 +31,10 @@ pub record Book : Type 0 where
 abbrev pub empty_book : Book
 empty_book = record { rules = []; creations = []; mark = None }
 
-abbrev pub same_receiver : Option ℕ → Option ℕ → Bool
-same_receiver None None = true
-same_receiver None (Some v) = false
-same_receiver (Some u) None = false
-same_receiver (Some u) (Some v) = u == v
-
 -- is it a rule for these types, and is its whole need held?
 abbrev pub applies : ℕ → Option ℕ → ℕ → ℕ → Rule → Bool
 applies u receiver o held rule =
-    (rule.by == u) && same_receiver rule.receiver receiver && rule.on == o && inside rule.need held
+    (rule.by == u) && option_eq nat_eq rule.receiver receiver && rule.on == o && inside rule.need held
 
 -- the union of what all the rules give that apply
 abbrev pub gathered : ℕ → Option ℕ → ℕ → ℕ → List Rule → ℕ
@@ -51,8 +47,7 @@ is_pair u o c = c.by == u && c.on == o
 
 -- what the creation of the pair brings, if there is one
 abbrev pub created : ℕ → ℕ → List CreationRule → Option ℕ
-created u o [] = None
-created u o (c ∷ cs) = let later = created u o cs in cond (is_pair u o c) (Some c.gets) later
+created u o cs = option_map (λ c. c.gets) (find (is_pair u o) cs)
 
 -- one more rule or creation, at the end
 abbrev pub more_rules : Book → Rule → Book
@@ -60,6 +55,10 @@ more_rules b rule = record { rules = b.rules ++ (rule ∷ []); creations = b.cre
 
 abbrev pub more_creations : Book → CreationRule → Book
 more_creations b c = record { rules = b.rules; creations = b.creations ++ (c ∷ []); mark = b.mark }
+
+-- this right marks an owner
+abbrev pub marked : Book → ℕ → Book
+marked b r = record { rules = b.rules; creations = b.creations; mark = Some r }
 
 abbrev pub book_meaning : Book → Meaning
 book_meaning b = record {

@@ -4,6 +4,7 @@
 ghost use Rattle.rows.specs.Rules.{RulesMean};
 
 pub mod book;
+mod count;
 pub mod declare;
 pub mod draft;
 pub mod row;

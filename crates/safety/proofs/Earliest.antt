@@ -1,6 +1,5 @@
 -- The next move of the run rule is the earliest of all that add a right; where there is none, no move adds one.
-use Rattle.std.proofs.Common.{◌≡◌, ℕ, ◌<◌, Bool, true, false, cond, T, ◌⊎◌, List, length, Some, None, subst, inl, inr, arith}
-use Rattle.std.proofs.lemmas.Bool.{cases_order}
+use Rattle.std.proofs.Common.{◌≡◌, ℕ, ◌<◌, Bool, true, false, cond, T, ◌⊎◌, List, length, Some, None, inl, inr, arith}
 use Rattle.rights.specs.Firsts.{first}
 use Rattle.books.specs.Meaning.{Meaning}
 use Rattle.safety.specs.declared.question.Move.{Move}
@@ -11,34 +10,10 @@ use Rattle.safety.proofs.Splits.{Split, split_none, or_else_split, first_split}
 
 -- of two moves that differ, one is the earlier
 ordered : (u v : Move) → (u ≡ v) ⊎ (Earlier v u ⊎ Earlier u v)
-ordered (Add d r) (Add e q) =
-    elim (cases_order d e) [
-      | inl p ↦ elim (cases_order r q) [
-        | inl s ↦ inl (cc)
-        | inr (inl l) ↦ inr (inr (inr (p, l)))
-        | inr (inr l) ↦ inr (inl (inr (omega arith, l)))
-      ]
-      | inr (inl l) ↦ inr (inr (inl l))
-      | inr (inr l) ↦ inr (inl (inl l))
-    ]
-ordered (Add d r) (Give s e q) =
-    elim (cases_order d e) [ inl p ↦ inr (inr (inr p)) | inr (inl l) ↦ inr (inr (inl l)) | inr (inr l) ↦ inr (inl l) ]
-ordered (Give s d r) (Add e q) =
-    elim (cases_order d e) [ inl p ↦ inr (inl (inr (omega arith))) | inr (inl l) ↦ inr (inr l) | inr (inr l) ↦ inr (inl (inl l)) ]
-ordered (Give s d r) (Give x e q) =
-    elim (cases_order d e) [
-      | inl p ↦ elim (cases_order s x) [
-        | inl o ↦ elim (cases_order r q) [
-          | inl k ↦ inl (cc)
-          | inr (inl l) ↦ inr (inr (inr (p, inr (o, l))))
-          | inr (inr l) ↦ inr (inl (inr (omega arith, inr (omega arith, l))))
-        ]
-        | inr (inl l) ↦ inr (inr (inr (p, inl l)))
-        | inr (inr l) ↦ inr (inl (inr (omega arith, inl l)))
-      ]
-      | inr (inl l) ↦ inr (inr (inl l))
-      | inr (inr l) ↦ inr (inl (inl l))
-    ]
+ordered (Add d r) (Add e q) = grind arith
+ordered (Add d r) (Give s e q) = grind arith
+ordered (Give s d r) (Add e q) = grind arith
+ordered (Give s d r) (Give x e q) = grind arith
 
 -- one column: w rights, among subjects of these types, of an object of type t
 module _ (w : ℕ) (m : Meaning) (types : List ℕ) (t : ℕ) (cells : List ℕ) where
@@ -70,17 +45,17 @@ module _ (w : ℕ) (m : Meaning) (types : List ℕ) (t : ℕ) (cells : List ℕ)
   -- where a search by receiver, then giver, then right stands at a move, no earlier move adds a right
   pub before_add : (d r : ℕ) → ((e : ℕ) → e < d → NoneTo e) → ((q : ℕ) → q < r → Adds (Add d q) → ⊥) → NoneBefore (Add d r)
   before_add d r none lower (Add e q) i (inl l) a = (none e l).0 q i.1 a
-  before_add d r none lower (Add e q) i (inr l) a = lower q l.1 (subst (λ x. Adds (Add x q)) l.0 a)
+  before_add d r none lower (Add e q) i (inr l) a = lower q l.1 (rw l.0 at a)
   before_add d r none lower (Give s e q) i l a = (none e l).1 s i.0 q i.2 a
 
   pub before_give : (s d r : ℕ) → ((e : ℕ) → e < d → NoneTo e) → NoAdd d → ((x : ℕ) → x < s → NoGive d x)
       → ((q : ℕ) → q < r → Adds (Give s d q) → ⊥) → NoneBefore (Give s d r)
   before_give s d r none own givers lower (Add e q) i (inl l) a = (none e l).0 q i.1 a
-  before_give s d r none own givers lower (Add e q) i (inr p) a = own q i.1 (subst (λ x. Adds (Add x q)) p a)
+  before_give s d r none own givers lower (Add e q) i (inr p) a = own q i.1 (rw p at a)
   before_give s d r none own givers lower (Give x e q) i (inl l) a = (none e l).1 x i.0 q i.2 a
-  before_give s d r none own givers lower (Give x e q) i (inr (p, inl l)) a = givers x l q i.2 (subst (λ y. Adds (Give x y q)) p a)
+  before_give s d r none own givers lower (Give x e q) i (inr (p, inl l)) a = givers x l q i.2 (rw p at a)
   before_give s d r none own givers lower (Give x e q) i (inr (p, inr (o, l))) a =
-      lower q l (subst (λ y. Adds (Give y d q)) o (subst (λ y. Adds (Give x y q)) p a))
+      lower q l (rw (p, o) at a)
 
   pub earliest : (v : Move) → Inside w types v → Adds v → NoneBefore v → Earliest w m types t cells v
   earliest v i a before = record {

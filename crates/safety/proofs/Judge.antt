@@ -1,19 +1,18 @@
 -- Every answer is right.
-use Rattle.std.proofs.Common.{◌≡◌, ℕ, suc, ◌+◌, ◌<◌, ◌≤◌, Bool, true, false, ◌&&◌, T, ltb, leb, List, [], ◌∷◌, ◌++◌, map, length, drop, Some, None, Ok, Option, Result, sym, refl, ap, ◌∙◌, subst, inl, inr, arith, leb→le, length-append, length-drop}
+use Rattle.std.proofs.Common.{◌≡◌, ℕ, suc, ◌+◌, ◌<◌, ◌≤◌, Bool, true, false, T, ltb, leb, List, [], ◌∷◌, ◌++◌, map, length, drop, Some, None, Ok, Option, Result, refl, ap, inl, inr, arith, leb→le, length-append, length-drop}
 use lib.ListN.{length-map}
 use lib.Seq.{take-append_seam, drop-append_seam}
+use Rattle.std.proofs.lemmas.Grind.{common_steps}
 use Rattle.rights.specs.Limits.{max_object_types, max_objects}
 use Rattle.rights.specs.Refusals.{demand, settle}
 use Rattle.rights.specs.declared.refusal.Refusal.{Refusal}
-use Rattle.rights.specs.declared.refusal.Refusal.TheVariants.{OutOfRange, LimitReached, TooShort}
-use Rattle.rights.proofs.Truth.{T_and, and_T}
+use Rattle.rights.specs.declared.refusal.Refusal.TheVariants.{OutOfRange, TooShort}
 use Rattle.books.specs.Meaning.{Meaning, Lawful}
 use Rattle.monitor.specs.declared.step.Step.{Step}
 use Rattle.monitor.specs.declared.step.Step.TheVariants.{Create}
 use Rattle.monitor.specs.declared.step.Done.TheVariants.{Made}
-use Rattle.monitor.specs.States.{Object, State, object, type_of, is_subject, in_table}
-use Rattle.monitor.specs.Machine.{make, outcome, perform}
-use Rattle.monitor.proofs.Obedience.{lt_T, t_in}
+use Rattle.monitor.specs.States.{Object, State, object, type_of, WellFormed}
+use Rattle.monitor.specs.Machine.{outcome, perform}
 use Rattle.safety.specs.declared.question.Question.{Question}
 use Rattle.safety.specs.declared.question.Question.TheVariants.{Can, CanNew}
 use Rattle.safety.specs.declared.question.Call.{Call}
@@ -23,12 +22,11 @@ use Rattle.safety.specs.declared.question.Reply.TheVariants as reply
 use Rattle.safety.specs.Runs.{after, after_calls, Attained}
 use Rattle.safety.specs.Rule.{step_for, fresh, shown}
 use Rattle.safety.specs.Questions.{in_range, list_places, placed, told, reply_from, asked}
-use Rattle.safety.specs.Laws.{WellFormed, NoList, EachWorks, Shows, Judged, ListsJudged, FollowsRule, Ruled}
+use Rattle.safety.specs.Laws.{NoList, EachWorks, Shows, Judged, ListsJudged, Ruled}
 use Rattle.safety.proofs.Splits.{Split}
-use Rattle.safety.proofs.Search.{Bounded}
 use Rattle.safety.proofs.Steps.{with_made, object_new, objects_more, created, calls_keep, well_made, length_fresh, well_step, grows_step}
 use Rattle.safety.proofs.Guard.{Guard, guard_holds}
-use Rattle.safety.proofs.Reach.{passes, reached_after, follows_reach}
+use Rattle.safety.proofs.Reach.{reached_after, follows_reach}
 use Rattle.safety.proofs.Shown.{short, Hopeless, shown_split}
 
 -- a run works
@@ -43,22 +41,19 @@ module _ (w : ℕ) (m : Meaning) (S : State) (wf : WellFormed S) where
   guard_old s o r l b = record {
     grown = l;
     born = λ c t rights lc e i li room same. absurd (omega arith);
-    bounded = λ i li same.
-        subst (λ x. Bounded w m S.subjects (object S x).type s r (object S x).cells) (sym same) (b (wf.few, wf.square o l));
+    bounded = λ i li same. rw same (b (wf.few, wf.square o l));
   }
 
   guard_new : (s t r : ℕ) → Hopeless w m S (CanNew s t r) → Guard w m s r (length S.objects) (λ i u. (length S.objects ≤ i) × (u ≡ t)) S
   guard_new s t r b = record {
     grown = omega arith;
     born = λ c u rights lc made i li room new.
-        let k = length S.subjects in
-        subst (λ x. Bounded w m S.subjects x s r (fresh k c rights)) (sym new.1)
-        (b c lc (omega arith) rights (subst (λ x. m.creation (type_of S c) x ≡ Some rights) new.1 made) (wf.few, length_fresh k c rights));
+        rw new.1 (b c lc (omega arith) rights (rw new.1 at made) (wf.few, length_fresh (length S.subjects) c rights));
     bounded = λ i li new. absurd (omega (arith, new.0));
   }
 
   stands : (s o r : ℕ) → T (in_range w S (Can s o r)) → o < length S.objects
-  stands s o r i = (t_in S s o (T_and (in_table S s o) (ltb r w) i).0).1
+  stands s o r i = grind arith
 
   no_list : Lawful m → (q : Question) → T (in_range w S q) → Hopeless w m S q → NoList w m S q
   no_list law (Can s o r) i b xs h = guard_holds w m law s r S (guard_old s o r (stands s o r i) b) xs o (λ l. l) refl h
@@ -69,19 +64,16 @@ module _ (w : ℕ) (m : Meaning) (S : State) (wf : WellFormed S) where
       → m.creation (type_of S c) t ≡ Some rights
       → outcome w m S (Create c t) ≡ Ok (with_made S t (fresh (length S.subjects) c rights), Made (length S.objects))
   creates c t rights lc small room e =
-      passes (is_subject S c && ltb t max_object_types) OutOfRange _ (and_T (is_subject S c) (ltb t max_object_types) (lt_T c (length S.subjects) lc) small)
-      ∙ ap (make S c t) e
-      ∙ passes (ltb (length S.objects) max_objects) LimitReached _ (lt_T (length S.objects) max_objects room)
-      ∙ ap (λ (U : State). Ok (U, Made (length S.objects))) (created S c t rights)
+      rw (← created S c t rights) (grind (arith, common_steps))
 
   run_works : (q : Question) → T (in_range w S q) → (run : List Step) → Ruled w m S q run → Works w m S q run
   run_works (Can s o r) i run (vs, e, h) =
       let l = stands s o r i in
       let few = short w m S s r (object S o).type (object S o).cells vs (wf.few, wf.square o l) h in
       let there = follows_reach w m s r o vs S (length S.objects) (object S o).type wf l refl refl h in
-      subst (Works w m S (Can s o r)) (sym e) (record { works = there.works; attains = there.holds; short = omega (arith, length-map vs (step_for o)) })
+      rw e (record { works = there.works; attains = there.holds; short = omega (arith, length-map vs (step_for o)) })
   run_works (CanNew s t r) i run (c, rights, vs, e, made, h, none, lc, room) =
-      let small = (T_and (is_subject S s) (ltb t max_object_types) (T_and (is_subject S s && ltb t max_object_types) (ltb r w) i).0).1 in
+      let small : T (ltb t max_object_types) = grind arith in
       let N = length S.objects in
       let new = fresh (length S.subjects) c rights in
       let U = with_made S t new in
@@ -90,30 +82,20 @@ module _ (w : ℕ) (m : Meaning) (S : State) (wf : WellFormed S) where
       let few = short w m S s r t new vs (wf.few, length_fresh (length S.subjects) c rights) h in
       let there = reached_after w m s r N (N + 1) t S (Create c t) (map (step_for N) vs) (U, Made N) (creates c t rights lc small room made) tt
       (follows_reach w m s r N vs U (N + 1) t (well_made S wf c t rights) (omega arith) more (ap (λ (x : Object). x.type) at_new)
-      (subst (λ (x : Object). FollowsRule w m S.subjects x.type s r x.cells vs) (sym at_new) h)) in
-      subst (Works w m S (CanNew s t r)) (sym e) (record {
+      (rw at_new h)) in
+      rw e (record {
         works = there.works;
         attains = (N, omega arith, omega (arith, there.objects), there.type, there.holds);
         short = omega (arith, length-map vs (step_for N));
       })
 
--- replies differ
-refused_never : (e : Refusal) → reply.Refused e ≡ reply.Never → ⊥
-refused_never e h = let z : ◌≡◌ {A = ℕ} 0 1 = cc in omega arith
-
-refused_can : (e : Refusal) (n : ℕ) → reply.Refused e ≡ reply.Can n → ⊥
-refused_can e n h = let z : ◌≡◌ {A = ℕ} 0 1 = cc in omega arith
-
-can_never : (n : ℕ) → reply.Can n ≡ reply.Never → ⊥
-can_never n h = let z : ◌≡◌ {A = ℕ} 0 1 = cc in omega arith
-
 -- an answered can has a run
 asked_can : (list : List Step) (n : ℕ) (b c : Bool) (found : Option (List Step))
     → reply_from (settle list (demand b OutOfRange (demand c TooShort (Ok (told list found))))).1 ≡ reply.Can n
     → T b × ((run : List Step) × (found ≡ Some run))
-asked_can list n false c found e = absurd (refused_can OutOfRange n e)
-asked_can list n true false found e = absurd (refused_can TooShort n e)
-asked_can list n true true None e = absurd (can_never n (sym e))
+asked_can list n false c found e = cc
+asked_can list n true false found e = cc
+asked_can list n true true None e = cc
 asked_can list n true true (Some run) e = (tt, (run, refl))
 
 -- the steps among the calls
@@ -142,17 +124,17 @@ module _ (w : ℕ) (m : Meaning) (S : State) (wf : WellFormed S) (q : Question) 
       let more = calls_keep w m (λ V. length S.objects ≤ length V.objects) (grows_step w m (length S.objects)) S (omega arith) calls in
       let (i, found) = asked_can other n (in_range w U q) (leb (list_places w) (length other)) (shown w m U q) e in
       let (run, is) = found in
-      let there = run_works w m U wide q i run (subst (λ x. Split x (Hopeless w m U q) (Ruled w m U q)) is (shown_split w m U q)) in
-      none (acts calls ++ run) (subst (Attained S q) (sym (after_acts w m S calls run)) (earlier S U (after w m U run) q more there.attains))
+      let there = run_works w m U wide q i run (rw is at (shown_split w m U q)) in
+      none (acts calls ++ run) (rw (after_acts w m S calls run) (earlier S U (after w m U run) q more there.attains))
 
   -- a refusal, a never, and a can
   judged_refused : (e : Refusal) → Judged w m S q list list (reply.Refused e)
   judged_refused e = record {
-    never_right = λ h. absurd (refused_never e h);
+    never_right = λ h. cc;
     never_list = λ h. refl;
-    never_told = λ h none. elim h [ inl k ↦ k | inr k ↦ absurd (refused_can e k.0 k.1) ];
-    can_right = λ n h. absurd (refused_can e n h);
-    never_lasts = λ h. absurd (refused_never e h);
+    never_told = λ h none. elim h [ inl k ↦ k | inr k ↦ cc ];
+    can_right = λ n h. cc;
+    never_lasts = λ h. cc;
   }
 
   judged_never : NoList w m S q → Judged w m S q list list reply.Never
@@ -160,7 +142,7 @@ module _ (w : ℕ) (m : Meaning) (S : State) (wf : WellFormed S) (q : Question) 
     never_right = λ h. none;
     never_list = λ h. refl;
     never_told = λ h no. refl;
-    can_right = λ n h. absurd (can_never n (sym h));
+    can_right = λ n h. cc;
     never_lasts = λ h. stays_never none;
   }
 
@@ -173,16 +155,16 @@ module _ (w : ℕ) (m : Meaning) (S : State) (wf : WellFormed S) (q : Question) 
         count = ap length same;
         rest = drop-append_seam run rest;
         places = omega (arith, length-append run rest, length-drop (length run) list, there.short);
-        ruled = e ∙ ap (λ (xs : List Step). Some xs) (sym same);
-        works = subst (EachWorks w m S) (sym same) there.works;
-        attains = subst (λ xs. Attained S q (after w m S xs)) (sym same) there.attains;
+        ruled = rw same e;
+        works = rw same there.works;
+        attains = rw same there.attains;
       } in
       record {
-        never_right = λ h. absurd (can_never (length run) h);
-        never_list = λ h. absurd (can_never (length run) h);
+        never_right = λ h. cc;
+        never_list = λ h. cc;
         never_told = λ h none. absurd (none run there.attains);
-        can_right = λ n h. let k : length run ≡ n = cc in subst (λ x. Shows w m S q list x (placed run list)) k shows;
-        never_lasts = λ h. absurd (can_never (length run) h);
+        can_right = λ n h. let k : length run ≡ n = cc in rw (← k) shows;
+        never_lasts = λ h. cc;
       }
 
   judged_told : Lawful m → T (in_range w S q) → list_places w ≤ length list

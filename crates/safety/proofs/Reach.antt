@@ -1,31 +1,22 @@
 -- What follows the run rule in one column, the monitor performs.
-use Rattle.std.proofs.Common.{◌≡◌, ℕ, ◌<◌, Bool, true, false, not, ◌&&◌, T, eqb, ltb, List, [], ◌∷◌, map, length, is_ok, Ok, Result, sym, refl, ap, ◌∙◌, subst, arith}
+use Rattle.std.proofs.Common.{◌≡◌, ℕ, ◌<◌, T, List, [], ◌∷◌, map, length, is_ok, Ok, Result, sym, ap, ◌∙◌, subst, arith}
+use Rattle.std.proofs.lemmas.Grind.{common_steps}
 use Rattle.rights.specs.Sets.{has, add}
-use Rattle.rights.specs.Refusals.{demand, settle}
+use Rattle.rights.specs.Refusals.{settle}
 use Rattle.rights.specs.declared.refusal.Refusal.{Refusal}
-use Rattle.rights.specs.declared.refusal.Refusal.TheVariants.{OutOfRange, SameSubject, NotPermitted}
-use Rattle.rights.proofs.Truth.{T_and, and_T, true_T}
-use Rattle.rights.proofs.Checks.{demand_met}
 use Rattle.books.specs.Meaning.{Meaning}
 use Rattle.monitor.specs.declared.step.Step.{Step}
 use Rattle.monitor.specs.declared.step.Done.{Done}
-use Rattle.monitor.specs.States.{Object, State, object, type_of, cell, in_table, with_cell}
+use Rattle.monitor.specs.States.{Object, State, object, cell, with_cell, WellFormed}
 use Rattle.monitor.specs.Machine.{join, outcome}
-use Rattle.monitor.proofs.Obedience.{object_same, same_but, joins, lt_T, in_T, ranged}
+use Rattle.monitor.proofs.Obedience.{object_same, same_but, joins}
 use Rattle.safety.specs.declared.question.Move.{Move}
 use Rattle.safety.specs.declared.question.Move.TheVariants.{Add, Give}
 use Rattle.safety.specs.Runs.{after}
 use Rattle.safety.specs.Rule.{step_for, receiver, right, adds}
-use Rattle.safety.specs.Laws.{WellFormed, OneMore, Grows, EachWorks, Inside, FollowsRule}
+use Rattle.safety.specs.Laws.{OneMore, Grows, EachWorks, Inside, FollowsRule}
 use Rattle.safety.proofs.Search.{receiver_inside, adds_new}
 use Rattle.safety.proofs.Steps.{well_cell}
-
-pub passes : {A : Type 0} (b : Bool) (e : Refusal) (next : Result A Refusal) → T b → demand b e next ≡ next
-passes b e next t = demand_met b e next (true_T b t)
-
-is_false : (b : Bool) → T (not b) → b ≡ false
-is_false true t = absurd t
-is_false false t = refl
 
 -- a move as a step
 grows_for : (S New : State) (o : ℕ) (v : Move) → OneMore S (receiver v) o (right v) New → Grows S (step_for o v) New
@@ -36,24 +27,16 @@ module _ (w : ℕ) (m : Meaning) (S : State) (o : ℕ) (l : o < length S.objects
   -- a move that adds a right is performed
   performs : (v : Move) → Inside w S.subjects v → T (adds m S.subjects (object S o).type (object S o).cells v)
       → outcome w m S (step_for o v) ≡ Ok (join S (receiver v) o (right v))
-  performs (Add d r) i a =
-      let allowed = has (m.may_add (type_of S d) (object S o).type (cell S d o)) r in
-      passes (in_table S d o && ltb r w) OutOfRange _ (and_T (in_table S d o) (ltb r w) (in_T S d o i.0 l) (lt_T r w i.1))
-      ∙ passes allowed NotPermitted (Ok (join S d o r)) (T_and (true && allowed) (not (has (cell S d o) r)) a).0
-  performs (Give s d r) i a =
-      let allowed = has (m.may_give (type_of S s) (type_of S d) (object S o).type (cell S s o)) r in
-      let h = T_and (not (eqb s d)) allowed (T_and (not (eqb s d) && allowed) (not (has (cell S d o) r)) a).0 in
-      passes (in_table S s o && in_table S d o && ltb r w) OutOfRange _ (ranged w m S s d o r i.0 i.1 l i.2)
-      ∙ passes (not (eqb s d)) SameSubject _ h.0
-      ∙ passes allowed NotPermitted (Ok (join S d o r)) h.1
+  performs (Add d r) i a = grind (arith, common_steps)
+  performs (Give s d r) i a = grind (arith, common_steps)
 
   -- and adds just that right
   adds_one : WellFormed S → (v : Move) → Inside w S.subjects v → T (adds m S.subjects (object S o).type (object S o).cells v)
       → OneMore S (receiver v) o (right v) (join S (receiver v) o (right v)).0
   adds_one wf v i a =
-      let j = joins S wf.square (receiver v) o (right v) (receiver_inside w S.subjects v i) l in
+      let j = joins S wf (receiver v) o (right v) (receiver_inside w S.subjects v i) l in
       record {
-        lacked = is_false (has (cell S (receiver v) o) (right v)) (adds_new m S.subjects (object S o).type (object S o).cells v a);
+        lacked = grind (arith, adds_new m S.subjects (object S o).type (object S o).cells v a);
         in_cell = j.in_cell;
         rest = j.rest;
       }
@@ -84,4 +67,4 @@ module _ (w : ℕ) (m : Meaning) (s r o : ℕ) where
       (grows_for S (join S d o (right v)).0 o v (adds_one w m S o l wf v h.1.inside h.1.adds_right))
       (follows_reach vs (with_cell S d o set_there) n t (well_cell S wf d o set_there l) (omega arith) (count ∙ en)
       (ap (λ (x : Object). x.type) same ∙ et)
-      (subst (λ (x : Object). FollowsRule w m S.subjects x.type s r x.cells vs) (sym same) h.2))
+      (rw same h.2))

@@ -1,8 +1,7 @@
 -- The search in one column: what it finds follows the run rule, and where it finds none the column lies below a closed
 -- one that lacks the asked holding.
-use Rattle.std.proofs.Common.{◌≡◌, ℕ, zero, suc, ◌<◌, ◌≤◌, Bool, true, false, cond, not, ◌&&◌, T, List, [], ◌∷◌, length, get_or, Some, None, Option, sym, refl, ap, ◌∙◌, subst, arith, length-set}
+use Rattle.std.proofs.Common.{◌≡◌, ℕ, zero, suc, ◌<◌, ◌≤◌, Bool, true, false, cond, not, T, List, [], ◌∷◌, length, get_or, Some, None, Option, refl, ap, ◌∙◌, arith, length-set}
 use Rattle.rights.specs.Sets.{has}
-use Rattle.rights.proofs.Truth.{T_and, and_T}
 use Rattle.books.specs.Meaning.{Meaning, Lawful}
 use Rattle.safety.specs.declared.question.Move.{Move}
 use Rattle.safety.specs.declared.question.Move.TheVariants.{Add, Give}
@@ -21,7 +20,7 @@ right_inside w types (Add d r) h = h.1
 right_inside w types (Give s d r) h = h.2
 
 pub adds_new : (m : Meaning) (types : List ℕ) (t : ℕ) (cells : List ℕ) (v : Move) → T (adds m types t cells v) → T (not (has (held cells (receiver v)) (right v)))
-adds_new m types t cells v a = (T_and (apart v && has (allowance m types t cells v) (right v)) (not (has (held cells (receiver v)) (right v))) a).1
+adds_new m types t cells v a = grind arith
 
 has_or_not : (b : Bool) → (T (not b) → ⊥) → T b
 has_or_not true f = tt
@@ -39,8 +38,7 @@ module _ (w : ℕ) (m : Meaning) (types : List ℕ) (t : ℕ) where
   moved_below law a b closed below v l p h =
       join_below a b (receiver v) (right v) below
       (has_or_not (has (held b (receiver v)) (right v)) (λ new.
-      closed v l (and_T (apart v && has (allowance m types t b v) (right v)) (not (has (held b (receiver v)) (right v)))
-      (and_T (apart v) (has (allowance m types t b v) (right v)) p (allowance_more law a b v below h)) new)))
+      closed v l (grind (arith, allowance_more law a b v below h))))
 
   pub adds_fewer : (cells : List ℕ) (v : Move) → length cells ≡ length types → Inside w types v → T (adds m types t cells v)
       → missing w (moved cells v) < missing w cells
@@ -63,8 +61,8 @@ module _ (w : ℕ) (m : Meaning) (types : List ℕ) (t : ℕ) where
     Follows = FollowsRule w m types t s r
 
     stopped : (cells : List ℕ) (b : Bool) → has (held cells s) r ≡ b → Split (cond b (Some []) None) (BoundedBy 0 cells) (Follows cells)
-    stopped cells true e = subst T (sym e) tt
-    stopped cells false e = λ k few. (cells, λ v l a. (let h = adds_fewer cells v k l a in omega arith), λ x q u. u, λ u. subst T e u)
+    stopped cells true e = rw e tt
+    stopped cells false e = λ k few. (cells, λ v l a. (let h = adds_fewer cells v k l a in omega arith), λ x q u. u, λ u. rw e at u)
 
     went : (fuel : ℕ) (cells : List ℕ) (v : Move) → (T (has (held cells s) r) → ⊥) → Earliest w m types t cells v → (o : Option (List Move))
         → Split o (BoundedBy fuel (moved cells v)) (Follows (moved cells v)) → Split (before v o) (BoundedBy (suc fuel) cells) (Follows cells)
@@ -79,9 +77,9 @@ module _ (w : ℕ) (m : Meaning) (types : List ℕ) (t : ℕ) where
         → (o : Option Move) → Split o (Closed w m types t cells) (Earliest w m types t cells)
         → (go : Move → Option (List Move)) → ((v : Move) → Split (go v) (BoundedBy fuel (moved cells v)) (Follows (moved cells v)))
         → Split (stop_or_move b o go) (BoundedBy (suc fuel) cells) (Follows cells)
-    decided fuel cells true e o h go k = subst T (sym e) tt
-    decided fuel cells false e None h go k = λ _ _. (cells, h, λ x q u. u, λ u. subst T e u)
-    decided fuel cells false e (Some v) h go k = went fuel cells v (λ u. subst T e u) h (go v) (k v)
+    decided fuel cells true e o h go k = rw e tt
+    decided fuel cells false e None h go k = λ _ _. (cells, h, λ x q u. u, λ u. rw e at u)
+    decided fuel cells false e (Some v) h go k = went fuel cells v (λ u. rw e at u) h (go v) (k v)
 
     pub find_split : (fuel : ℕ) (cells : List ℕ) → Split (find w m types t s r fuel cells) (BoundedBy fuel cells) (Follows cells)
     unfolding find

@@ -1,5 +1,5 @@
 -- The shown run follows its rule; where there is none, the asked columns lie below closed ones that lack the holding.
-use Rattle.std.proofs.Common.{◌≡◌, ℕ, ◌<◌, ◌≤◌, Bool, true, false, cond, T, ltb, List, ◌∷◌, map, length, Some, None, Option, sym, refl, ap, subst, le_trans, mul-le-mul_right, arith, ltb→lt, lt→ltb}
+use Rattle.std.proofs.Common.{◌≡◌, ℕ, ◌<◌, ◌≤◌, Bool, true, false, cond, ltb, List, ◌∷◌, map, length, Some, None, Option, refl, ap, le_trans, mul-le-mul_right, arith}
 use Rattle.rights.specs.Limits.{max_subjects, max_objects}
 use Rattle.books.specs.Meaning.{Meaning}
 use Rattle.monitor.specs.declared.step.Step.{Step}
@@ -62,12 +62,12 @@ module _ (w : ℕ) (m : Meaning) (S : State) (s r : ℕ) where
           → Split found (HopelessIn t (fresh (length S.subjects) c rights)) (Way (length S.objects) t (fresh (length S.subjects) c rights))
           → Split (before (Create c t) found) (Barren c) MadeWay
       new_before c rights l none e None h =
-          λ others e'. let same : rights ≡ others = cc in subst (λ x. HopelessIn t (fresh (length S.subjects) c x)) same h
+          λ others e'. let same : rights ≡ others = cc in rw (← same) h
       new_before c rights l none e (Some run) h = (c, rights, h.0, ap (λ xs. Create c t ∷ xs) h.1, e, h.2, none, l, room)
 
       creator_split : (c : ℕ) → c < length S.subjects → ((e : ℕ) → e < c → by e ≡ None)
           → (made : Option ℕ) → m.creation (type_of S c) t ≡ made → Split (after_create w m S c s t r made) (Barren c) MadeWay
-      creator_split c l none None e = λ rights e'. let z : ◌≡◌ {A = ℕ} 0 1 = cc in absurd (omega arith)
+      creator_split c l none None e = λ rights e'. cc
       creator_split c l none (Some rights) e =
           new_before c rights l none e (find_for w m S (length S.objects) t s r (fresh (length S.subjects) c rights))
           (find_for_split (length S.objects) t (fresh (length S.subjects) c rights))
@@ -83,8 +83,8 @@ module _ (w : ℕ) (m : Meaning) (S : State) (s r : ℕ) where
     room_split : (b : Bool) → ltb (length S.objects) max_objects ≡ b → Split (cond b (find_new w m S s t r) None) HopelessNew MadeWay
     room_split true e =
         split_none (find_new w m S s t r) _ HopelessNew MadeWay (λ h c l room. (h c l).1)
-        (find_new_split (ltb→lt (length S.objects) max_objects (subst T (sym e) tt)))
-    room_split false e = λ c l room. absurd (subst T e (lt→ltb (length S.objects) max_objects room))
+        (find_new_split (grind arith))
+    room_split false e = λ c l room. absurd (grind arith)
 
 module _ (w : ℕ) (m : Meaning) (S : State) where
   -- what is known where there is no run, and of a run
@@ -97,4 +97,4 @@ module _ (w : ℕ) (m : Meaning) (S : State) where
   shown_split (CanNew s t r) = room_split w m S s r t (ltb (length S.objects) max_objects) refl
 
 pub rule_followed : RuleFollowed
-rule_followed w m S q run e = subst (λ found. Split found (Hopeless w m S q) (Ruled w m S q)) e (shown_split w m S q)
+rule_followed w m S q run e = rw e at (shown_split w m S q)

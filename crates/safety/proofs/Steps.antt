@@ -1,28 +1,27 @@
 -- One step of the monitor: what it may change, and what it keeps.
-use Rattle.std.proofs.Common.{◌≡◌, ℕ, ◌+◌, ◌<◌, ◌≤◌, Bool, true, false, not, ◌&&◌, T, eqb, ltb, List, [], ◌∷◌, ◌++◌, length, set, replicate, Some, None, Option, Result, sym, refl, ap, ◌∙◌, subst, inl, inr, arith, ltb→lt, length-append, length-set}
-use lib.ListN.{length-replicate, get_or-append}
-use lib.Seq.{get_or-append_seam, set-append_seam}
+use Rattle.std.proofs.Common.{◌≡◌, ℕ, ◌+◌, ◌<◌, ◌≤◌, Bool, true, false, not, ◌&&◌, T, eqb, ltb, List, [], ◌∷◌, ◌++◌, length, set, replicate, Some, None, Option, Result, refl, ap, ◌∙◌, inl, inr, arith, length-append, length-set}
+use lib.Seq.{set-append_seam}
 use Rattle.std.proofs.lemmas.Bool.{cases_eq}
+use Rattle.std.proofs.lemmas.Grind.{common_steps}
 use Rattle.rights.specs.Limits.{max_object_types, max_objects}
 use Rattle.rights.specs.Sets.{nothing, has, add, remove}
 use Rattle.rights.specs.Refusals.{demand, settle}
 use Rattle.rights.specs.declared.refusal.Refusal.{Refusal}
 use Rattle.rights.specs.declared.refusal.Refusal.TheVariants.{OutOfRange, SameSubject, LimitReached, NotPermitted, NotOwner, NotHeld}
-use Rattle.rights.proofs.Truth.{T_and}
 use Rattle.books.specs.Meaning.{Meaning}
 use Rattle.monitor.specs.declared.step.Step.{Step}
 use Rattle.monitor.specs.declared.step.Step.TheVariants.{Create, Transform, Grant, Revoke}
 use Rattle.monitor.specs.declared.step.Done.{Done}
-use Rattle.monitor.specs.States.{Object, State, no_object, object, type_of, cell, is_subject, in_table, with_object, with_cell}
+use Rattle.monitor.specs.States.{Object, State, object, type_of, cell, is_subject, in_table, with_object, with_cell, WellFormed}
 use Rattle.monitor.specs.Machine.{make, owns, perform}
-use Rattle.monitor.proofs.Obedience.{object_same, object_other, same_but, t_in, range}
+use Rattle.monitor.proofs.Obedience.{object_same, object_other, same_but}
 use Rattle.safety.specs.declared.question.Move.{Move}
 use Rattle.safety.specs.declared.question.Move.TheVariants.{Add, Give}
 use Rattle.safety.specs.declared.question.Call.{Call}
 use Rattle.safety.specs.declared.question.Call.TheVariants.{Act, Ask}
 use Rattle.safety.specs.Runs.{after, after_calls}
 use Rattle.safety.specs.Rule.{receiver, right, apart, allowance, fresh}
-use Rattle.safety.specs.Laws.{WellFormed, Inside}
+use Rattle.safety.specs.Laws.{Inside}
 
 abbrev pub an_object : ℕ → List ℕ → Object
 an_object t cells = record { type = t; cells = cells }
@@ -32,10 +31,10 @@ abbrev pub with_made : State → ℕ → List ℕ → State
 with_made S t new = record { subjects = S.subjects; objects = S.objects ++ (an_object t new ∷ []) }
 
 object_old : (S : State) (t : ℕ) (new : List ℕ) (i : ℕ) → i < length S.objects → object (with_made S t new) i ≡ object S i
-object_old S t new i l = get_or-append S.objects (an_object t new ∷ []) no_object i l
+object_old S t new i l = grind (arith, common_steps)
 
 pub object_new : (S : State) (t : ℕ) (new : List ℕ) → object (with_made S t new) (length S.objects) ≡ an_object t new
-object_new S t new = get_or-append_seam S.objects (an_object t new) [] no_object
+object_new S t new = grind (arith, common_steps)
 
 pub objects_more : (S : State) (t : ℕ) (new : List ℕ) → length (with_made S t new).objects ≡ length S.objects + 1
 objects_more S t new = length-append S.objects (an_object t new ∷ [])
@@ -56,8 +55,8 @@ pub each_cell : (Q : ℕ → Object → Type 0) (S : State) (d o x : ℕ) → o 
     → (i : ℕ) → i < length (with_cell S d o x).objects → Q i (object (with_cell S d o x) i)
 each_cell Q S d o x l old here i li =
     elim (cases_eq i o) [
-      | inl e ↦ subst (λ k. Q k (object (with_cell S d o x) k)) (sym e) (subst (Q o) (sym (object_same S d o x l)) here)
-      | inr ne ↦ subst (Q i) (sym (object_other S d o x l i ne)) (old i (omega (arith, (same_but S d o x l).count)))
+      | inl e ↦ rw (e, object_same S d o x l) here
+      | inr ne ↦ rw (object_other S d o x l i ne) (old i (omega (arith, (same_but S d o x l).count)))
     ]
 
 pub each_made : (Q : ℕ → Object → Type 0) (S : State) (t : ℕ) (new : List ℕ)
@@ -65,9 +64,9 @@ pub each_made : (Q : ℕ → Object → Type 0) (S : State) (t : ℕ) (new : Lis
     → (i : ℕ) → i < length (with_made S t new).objects → Q i (object (with_made S t new) i)
 each_made Q S t new old here i li =
     elim (cases_eq i (length S.objects)) [
-      | inl e ↦ subst (λ x. Q x (object (with_made S t new) x)) (sym e) (subst (Q (length S.objects)) (sym (object_new S t new)) here)
+      | inl e ↦ rw (e, object_new S t new) here
       | inr ne ↦ let l : i < length S.objects = omega (arith, objects_more S t new) in
-          subst (Q i) (sym (object_old S t new i l)) (old i l)
+          rw (object_old S t new i l) (old i l)
     ]
 
 -- What a step keeps: it is refused, or it adds an object, or it moves in a column, or it takes a right from a cell.
@@ -85,28 +84,24 @@ module _ (w : ℕ) (m : Meaning) (S : State) (P : State → Type 0) (here : P S)
   creating c t l None e = here
   creating c t l (Some rights) e =
       unless (ltb (length S.objects) max_objects) LimitReached _ (λ room.
-      subst P (sym (created S c t rights)) (creates c t rights l e (ltb→lt (length S.objects) max_objects room)))
+      rw (created S c t rights) (creates c t rights l e (grind arith)))
 
   pub perform_keeps : (x : Step) → P (perform w m S x).0
   perform_keeps (Create c t) =
-      unless (is_subject S c && ltb t max_object_types) OutOfRange _ (λ h.
-      creating c t (ltb→lt c (length S.subjects) (T_and (is_subject S c) (ltb t max_object_types) h).0) (m.creation (type_of S c) t) refl)
+      unless (is_subject S c && ltb t max_object_types) OutOfRange _ (λ h. creating c t (grind arith) (m.creation (type_of S c) t) refl)
   perform_keeps (Transform s o r) =
       unless (in_table S s o && ltb r w) OutOfRange _ (λ h.
       unless (has (m.may_add (type_of S s) (object S o).type (cell S s o)) r) NotPermitted _ (λ allowed.
-      let k = T_and (in_table S s o) (ltb r w) h in
-      let i = t_in S s o k.0 in
-      moves o (Add s r) i.1 (i.0, ltb→lt r w k.1) tt allowed))
+      moves o (Add s r) (grind arith) (grind arith) tt allowed))
   perform_keeps (Grant s d o r) =
       unless (in_table S s o && in_table S d o && ltb r w) OutOfRange _ (λ h.
       unless (not (eqb s d)) SameSubject _ (λ differ.
       unless (has (m.may_give (type_of S s) (type_of S d) (object S o).type (cell S s o)) r) NotPermitted _ (λ allowed.
-      let i = range w m S s d o r h in
-      moves o (Give s d r) i.2 (i.0, i.1, i.3) differ allowed)))
+      moves o (Give s d r) (grind arith) (grind arith) differ allowed)))
   perform_keeps (Revoke s d o r) =
       unless (in_table S s o && in_table S d o && ltb r w) OutOfRange _ (λ h.
       unless (owns m.owner (cell S s o)) NotOwner _ (λ owner.
-      unless (has (cell S d o) r) NotHeld _ (λ held. leaves o d r (range w m S s d o r h).2)))
+      unless (has (cell S d o) r) NotHeld _ (λ held. leaves o d r (grind arith))))
 
 -- what each step keeps, a list of steps keeps, and a list of calls
 pub run_keeps : (w : ℕ) (m : Meaning) (P : State → Type 0) → ((S : State) → P S → (x : Step) → P (perform w m S x).0)
@@ -128,7 +123,7 @@ well_cell S wf d o x l = record {
 }
 
 pub length_fresh : (k c rights : ℕ) → length (fresh k c rights) ≡ k
-length_fresh k c rights = length-set (replicate k nothing) c rights ∙ length-replicate k nothing
+length_fresh k c rights = grind (arith, common_steps)
 
 pub well_made : (S : State) → WellFormed S → (c t rights : ℕ) → WellFormed (with_made S t (fresh (length S.subjects) c rights))
 well_made S wf c t rights =

@@ -1,11 +1,11 @@
 -- What an answer is worth: the law of the questions, in the words of the model.
-use Rattle.std.specs.Prelude.{◌≡◌, ℕ, ◌<◌, ◌≤◌, false, ◌||◌, T, ◌⊎◌, List, [], ◌∷◌, map, length, take, drop, is_ok, Some, None, ◌==◌, ◌≢◌}
-use Rattle.rights.specs.Limits.{max_subjects, max_objects}
+use Rattle.std.specs.Prelude.{◌≡◌, ℕ, ◌<◌, false, ◌||◌, T, ◌⊎◌, List, [], ◌∷◌, map, length, take, drop, is_ok, Some, None, ◌==◌, ◌≢◌}
+use Rattle.rights.specs.Limits.{max_objects}
 use Rattle.rights.specs.Sets.{has}
 use Rattle.books.specs.Meaning.{Meaning, Lawful}
 use Rattle.monitor.specs.declared.step.Step.{Step}
 use Rattle.monitor.specs.declared.step.Step.TheVariants.{Create, Transform, Grant, Revoke}
-use Rattle.monitor.specs.States.{State, object, type_of, cell}
+use Rattle.monitor.specs.States.{State, object, type_of, cell, WellFormed}
 use Rattle.monitor.specs.Machine.{perform}
 use Rattle.monitor.specs.Laws.{SameBut}
 use Rattle.safety.specs.declared.question.Move.{Move}
@@ -19,11 +19,6 @@ use Rattle.safety.specs.declared.question.Reply.TheVariants as reply
 use Rattle.safety.specs.Runs.{after, after_calls, Attained}
 use Rattle.safety.specs.Rule.{step_for, held, adds, moved, fresh, after_create, shown}
 use Rattle.safety.specs.Questions.{asked}
-
--- Every table is well-formed: at most 64 subjects, and for each object a cell for each subject.
-pub record WellFormed (S : State) : Type 0 where
-  pub few : length S.subjects ≤ max_subjects
-  pub square : (o : ℕ) → o < length S.objects → length (object S o).cells ≡ length S.subjects
 
 -- no list of steps, refused ones among them, ends with the asked holding
 abbrev pub NoList : ℕ → Meaning → State → Question → Type 0

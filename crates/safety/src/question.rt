@@ -1,11 +1,11 @@
 // Questions, calls and their answers, by number.
 ghost use Rattle.std.specs.Prelude.{◌≡◌};
-ghost use Rattle.safety.specs.Questions.{reply_value};
+ghost use Rattle.safety.specs.Questions.{reply_value, step_reply};
 
-use monitor::Step;
+use monitor::{Done, Step};
 use rights::Refusal;
 
-#[derive(Clone, Copy)]
+#[derive(Clone, Copy, PartialEq, Eq)]
 pub enum Question {
     // Can the subject ever hold the right for the object?
     Can {
@@ -22,7 +22,7 @@ pub enum Question {
 }
 
 // A step inside one object's column of the table.
-#[derive(Clone, Copy)]
+#[derive(Clone, Copy, PartialEq, Eq)]
 pub enum Move {
     // The receiver adds the right to its own cell.
     Add {
@@ -38,14 +38,14 @@ pub enum Move {
 }
 
 // Any of the six calls: a step (create, transform, grant, revoke) or a question (can, can-new).
-#[derive(Clone, Copy)]
+#[derive(Clone, Copy, PartialEq, Eq)]
 pub enum Call {
     Act(Step),
     Ask(Question),
 }
 
 // What a call answers.
-#[derive(Clone, Copy)]
+#[derive(Clone, Copy, PartialEq, Eq)]
 pub enum Reply {
     // An object was made: its number.
     Made(usize),
@@ -57,6 +57,7 @@ pub enum Reply {
     Never,
     // It can come: the number of steps of the shown run.
     Can(usize),
+    // A refusal is a reply like the others, so that the law is said once, of replies.
     Refused(Refusal),
 }
 
@@ -67,11 +68,24 @@ impl Reply {
     {
         match self {
             Reply::Made(object) => Some(object),
-            Reply::Added(new) => Some(if new { 1 } else { 0 }),
+            Reply::Added(new) => Some(usize::from(new)),
             Reply::Taken => None,
             Reply::Never => Some(0),
             Reply::Can(count) => Some(count),
             Reply::Refused(refusal) => Some(refusal.number()),
+        }
+    }
+}
+
+impl From<Result<Done, Refusal>> for Reply {
+    ghost from_gives = { λ res reply. reply ≡ step_reply res };
+
+    fn from(res: Result<Done, Refusal>) -> Reply {
+        match res {
+            Ok(Done::Made(object)) => Reply::Made(object),
+            Ok(Done::Added(new)) => Reply::Added(new),
+            Ok(Done::Taken) => Reply::Taken,
+            Err(refusal) => Reply::Refused(refusal),
         }
     }
 }

@@ -1,3 +1,1 @@
-mod Entering
 mod Numbering
-mod Growing

@@ -3,15 +3,15 @@ use Rattle.std.specs.Prelude.{◌≡◌, ℕ, Bool, not, List, [], ◌∷◌, �
 use Rattle.rights.specs.Refusals.{demand}
 use Rattle.rights.specs.declared.refusal.Refusal.{Refusal}
 use Rattle.rights.specs.declared.refusal.Refusal.TheVariants.{Repeated, LimitReached}
-use Rattle.words.specs.declared.stop.Denial.{Denial}
-use Rattle.words.specs.declared.stop.Denial.TheVariants.{Memory, Refused}
+use Rattle.words.specs.declared.stop.Failed.{Failed}
+use Rattle.words.specs.declared.stop.Failed.TheVariants.{Memory, Because}
 use Rattle.grammar.specs.Words.{not_a_word}
 use Rattle.meaning.specs.Declarations.{unless_wrong}
 
 -- A call on a state did what was to be done. Refused, or for want of memory, it leaves the state as it was.
-abbrev pub CarriedOut : {S A : Type 0} → Result (S × A) Refusal → S → S → Result A Denial → Type 0
+abbrev pub CarriedOut : {S A E : Type 0} → Result (S × A) E → S → S → Result A (Failed E) → Type 0
 CarriedOut due before after (Ok x) = due ≡ Ok (after, x)
-CarriedOut due before after (Err (Refused e)) = (due ≡ Err e) × (after ≡ before)
+CarriedOut due before after (Err (Because e)) = (due ≡ Err e) × (after ≡ before)
 CarriedOut due before after (Err Memory) = after ≡ before
 
 -- one more name, if it is a word, is not taken and is within the limit

@@ -1,19 +1,16 @@
-// The declarations of a scheme. Each is refused by the first test that fails: a new name that is no word (2, 5 or else 3),
-// a number that is not declared (10), something declared already (8), an empty need (9), a limit (20). A refused one, or
-// one that finds no memory for a name, alters nothing.
+// The declarations of a scheme. Each is refused by the first test that fails: a new name that is no word (2, 5 or else
+// 3), a number that is not declared (10), something declared already (8), an empty need (9), a limit (20). A refused
+// one, or one that finds no memory for a name, alters nothing.
 ghost use Rattle.std.specs.Prelude.{◌≡◌, IfOk, Some, None};
 ghost use Rattle.rights.specs.Refusals.{settle};
 ghost use Rattle.entries.specs.Lookup.{place_of};
 ghost use Rattle.meaning.specs.Named.{nothing_named};
 ghost use Rattle.meaning.specs.Declarations.{type_taken, right_named, subject_type_named, object_type_named, owner_set, creation_added, row_added};
 ghost use Rattle.schemes.specs.Calls.{CarriedOut};
-ghost use Rattle.schemes.specs.Views.{draft_of, scheme_of};
 
 use crate::draft::SchemeDraft;
-use crate::enter::enter;
+use crate::names::AllNames;
 use crate::scheme::Scheme;
-use entries::find;
-use entries::kind::{ObjectTypeKind, RightKind, SubjectTypeKind};
 use rights::Refusal;
 use rows::Draft;
 use std::alloc::{AllocError, Global};
@@ -21,71 +18,68 @@ use words::Denial;
 
 impl SchemeDraft {
     pub fn new(heap: Global) -> Result<SchemeDraft, AllocError>
-        ensures { IfOk result (λ d. draft_of d ≡ nothing_named) }
+        ensures { IfOk result (λ d. d ≡ nothing_named) }
     {
-        let draft = Draft::new(heap)?;
         Ok(SchemeDraft {
-            rights: Vec::new(heap),
-            subject_types: Vec::new(heap),
-            object_types: Vec::new(heap),
-            draft,
+            names: AllNames::none(heap),
+            draft: Draft::new(heap)?,
         })
     }
 
     // The number of the right with this name.
     pub fn right(&self, name: &[u8]) -> Option<usize>
-        ensures { result ≡ place_of name.now (draft_of self.now).names.rights }
+        ensures { result ≡ place_of name.now self.now.names.rights }
     {
-        find(&self.rights, name)
+        self.names.rights.place(name)
     }
 
     pub fn subject_type(&self, name: &[u8]) -> Option<usize>
-        ensures { result ≡ place_of name.now (draft_of self.now).names.subject_types }
+        ensures { result ≡ place_of name.now self.now.names.subject_types }
     {
-        find(&self.subject_types, name)
+        self.names.subject_types.place(name)
     }
 
     pub fn object_type(&self, name: &[u8]) -> Option<usize>
-        ensures { result ≡ place_of name.now (draft_of self.now).names.object_types }
+        ensures { result ≡ place_of name.now self.now.names.object_types }
     {
-        find(&self.object_types, name)
+        self.names.object_types.place(name)
     }
 
     // Subject types and object types share one set of names.
     fn has_type(&self, name: &[u8]) -> bool
-        ensures { result ≡ type_taken (draft_of self.now) name.now }
+        ensures { result ≡ type_taken self.now name.now }
     {
         self.subject_type(name).is_some() || self.object_type(name).is_some()
     }
 
     // One more right under a name of its own. The answer is its number.
     pub fn add_right(&mut self, heap: Global, name: &[u8]) -> Result<usize, Denial>
-        ensures { CarriedOut (right_named (draft_of self.old) name.now) (draft_of self.old) (draft_of self.new) result }
+        ensures { CarriedOut (right_named self.old name.now) self.old self.new result }
     {
         let taken = self.right(name).is_some();
-        enter(heap, &mut self.rights, RightKind, taken, name)?;
-        Ok(self.draft.add_right()?)
+        self.names.rights.enter(heap, taken, name)?;
+        self.draft.add_right().map_err(Denial::Because)
     }
 
     pub fn add_subject_type(&mut self, heap: Global, name: &[u8]) -> Result<usize, Denial>
-        ensures { CarriedOut (subject_type_named (draft_of self.old) name.now) (draft_of self.old) (draft_of self.new) result }
+        ensures { CarriedOut (subject_type_named self.old name.now) self.old self.new result }
     {
         let taken = self.has_type(name);
-        enter(heap, &mut self.subject_types, SubjectTypeKind, taken, name)?;
-        Ok(self.draft.add_subject_type()?)
+        self.names.subject_types.enter(heap, taken, name)?;
+        self.draft.add_subject_type().map_err(Denial::Because)
     }
 
     pub fn add_object_type(&mut self, heap: Global, name: &[u8]) -> Result<usize, Denial>
-        ensures { CarriedOut (object_type_named (draft_of self.old) name.now) (draft_of self.old) (draft_of self.new) result }
+        ensures { CarriedOut (object_type_named self.old name.now) self.old self.new result }
     {
         let taken = self.has_type(name);
-        enter(heap, &mut self.object_types, ObjectTypeKind, taken, name)?;
-        Ok(self.draft.add_object_type()?)
+        self.names.object_types.enter(heap, taken, name)?;
+        self.draft.add_object_type().map_err(Denial::Because)
     }
 
     // The right that marks an owner.
     pub fn set_owner(&mut self, right: usize) -> Result<(), Refusal>
-        ensures { (draft_of self.new, result) ≡ settle (draft_of self.old) (owner_set (draft_of self.old) right) }
+        ensures { (self.new, result) ≡ settle self.old (owner_set self.old right) }
     {
         self.draft.set_owner(right)
     }
@@ -97,7 +91,7 @@ impl SchemeDraft {
         object: usize,
         gets: &[usize],
     ) -> Result<(), Refusal>
-        ensures { (draft_of self.new, result) ≡ settle (draft_of self.old) (creation_added (draft_of self.old) creator object gets.now) }
+        ensures { (self.new, result) ≡ settle self.old (creation_added self.old creator object gets.now) }
     {
         self.draft.add_creation(creator, object, gets)
     }
@@ -110,7 +104,7 @@ impl SchemeDraft {
         need: &[usize],
         gives: &[usize],
     ) -> Result<(), Refusal>
-        ensures { (draft_of self.new, result) ≡ settle (draft_of self.old) (row_added (draft_of self.old) subject None object need.now gives.now) }
+        ensures { (self.new, result) ≡ settle self.old (row_added self.old subject None object need.now gives.now) }
     {
         self.draft.add_transform(subject, object, need, gives)
     }
@@ -124,26 +118,18 @@ impl SchemeDraft {
         need: &[usize],
         gives: &[usize],
     ) -> Result<(), Refusal>
-        ensures { (draft_of self.new, result) ≡ settle (draft_of self.old) (row_added (draft_of self.old) giver (Some receiver) object need.now gives.now) }
+        ensures { (self.new, result) ≡ settle self.old (row_added self.old giver (Some receiver) object need.now gives.now) }
     {
         self.draft.add_grant(giver, receiver, object, need, gives)
     }
 
     // The draft as a scheme.
     pub fn fix(self) -> Scheme
-        ensures { scheme_of result ≡ draft_of self }
+        ensures { result ≡ self }
     {
-        let SchemeDraft {
-            rights,
-            subject_types,
-            object_types,
-            draft,
-        } = self;
         Scheme {
-            rights,
-            subject_types,
-            object_types,
-            book: draft.fix(),
+            names: self.names,
+            book: self.draft.fix(),
         }
     }
 }

@@ -1,18 +1,22 @@
 // A draft of a scheme: a draft of a row book, with the names of its rights and types.
-ghost use Rattle.std.specs.Prelude.{◌≡◌, vec_len};
-
-use entries::Entry;
-use entries::kind::{ObjectTypeKind, RightKind, SubjectTypeKind};
+use crate::names::AllNames;
 use rows::Draft;
+use std::marker::Model;
 
-// Each right and type has its name at its number. Fixed, the draft becomes a scheme.
+// As many of each kind are declared as have names. Fixed, the draft becomes a scheme.
 #[derive(Drop)]
 pub struct SchemeDraft {
-    pub(crate) rights: Vec<Entry<RightKind>>,
-    pub(crate) subject_types: Vec<Entry<SubjectTypeKind>>,
-    pub(crate) object_types: Vec<Entry<ObjectTypeKind>>,
+    pub(crate) names: AllNames,
     pub(crate) draft: Draft,
-    ghost rights_counted: { vec_len rights ≡ draft.rights },
-    ghost subject_types_counted: { vec_len subject_types ≡ draft.subject_types },
-    ghost object_types_counted: { vec_len object_types ≡ draft.object_types },
+}
+
+impl Model for SchemeDraft {
+    ghost use Rattle.std.specs.Prelude.{◌≡◌};
+    ghost use Rattle.meaning.specs.Named.{Named, numbered};
+
+    ghost Value = { Named };
+
+    ghost view = { λ d. record { names = d.names; book = d.draft.book } };
+
+    ghost invariant = { λ d. d.draft ≡ numbered (record { names = d.names; book = d.draft.book }) };
 }

@@ -3,7 +3,7 @@
 
 pub mod declare;
 pub mod draft;
-pub mod enter;
+pub mod names;
 pub mod scheme;
 pub mod view;
 

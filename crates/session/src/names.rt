@@ -1,6 +1,6 @@
 // The names of a task: each kind by number, from 0.
 use monitor::Step;
-use rights::Right;
+use rights::RightSet;
 use safety::Question;
 use std::fmt;
 
@@ -14,40 +14,54 @@ pub struct Names<'a> {
 
 // The name of this number, or * where there is none.
 fn name_at<'a>(names: &'a [&'a str], number: usize) -> &'a str {
-    if number < names.len() {
-        names[number]
-    } else {
-        "*"
-    }
+    names.get(number).copied().unwrap_or("*")
 }
 
 impl<'a> Names<'a> {
-    pub fn right(&self, right: Right) -> &'a str {
-        name_at(self.rights, right.number())
+    fn right(&self, number: usize) -> &'a str {
+        name_at(self.rights, number)
     }
 
-    pub fn subject(&self, number: usize) -> &'a str {
+    fn object_type(&self, number: usize) -> &'a str {
+        name_at(self.object_types, number)
+    }
+
+    fn subject(&self, number: usize) -> &'a str {
         name_at(self.subjects, number)
     }
 
-    pub fn object(&self, number: usize) -> &'a str {
+    fn object(&self, number: usize) -> &'a str {
         name_at(self.objects, number)
+    }
+
+    // The names of a subject, an object and a right.
+    fn holding(&self, subject: usize, object: usize, right: usize) -> (&'a str, &'a str, &'a str) {
+        (
+            self.subject(subject),
+            self.object(object),
+            self.right(right),
+        )
+    }
+
+    // What a line shows, with these names for its numbers.
+    pub fn show<T>(self, shown: T) -> Named<'a, T> {
+        Named { names: self, shown }
     }
 }
 
-// A step with the names of its parts.
-#[derive(Clone, Copy)]
-pub struct NamedStep<'a> {
-    pub names: Names<'a>,
-    pub step: Step,
+// A step, a question or a cell with the names of its parts.
+#[derive(Drop)]
+pub struct Named<'a, T> {
+    names: Names<'a>,
+    shown: T,
 }
 
-impl fmt::Display for NamedStep<'_> {
+impl fmt::Display for Named<'_, Step> {
     fn fmt<W: fmt::Write>(&self, f: &mut fmt::Formatter<W>) -> fmt::Result {
-        match self.step {
+        match self.shown {
             Step::Create { subject, kind } => {
                 let s = self.names.subject(subject);
-                let t = name_at(self.names.object_types, kind);
+                let t = self.names.object_type(kind);
                 write!(f, "(create {s} * {t})")
             }
             Step::Transform {
@@ -55,9 +69,7 @@ impl fmt::Display for NamedStep<'_> {
                 object,
                 right,
             } => {
-                let s = self.names.subject(subject);
-                let o = self.names.object(object);
-                let r = name_at(self.names.rights, right);
+                let (s, o, r) = self.names.holding(subject, object, right);
                 write!(f, "(itrans {s} {o} {r})")
             }
             Step::Grant {
@@ -67,9 +79,7 @@ impl fmt::Display for NamedStep<'_> {
                 right,
             } => {
                 let s = self.names.subject(giver);
-                let d = self.names.subject(receiver);
-                let o = self.names.object(object);
-                let r = name_at(self.names.rights, right);
+                let (d, o, r) = self.names.holding(receiver, object, right);
                 write!(f, "(grant {s} {d} {o} {r})")
             }
             Step::Revoke {
@@ -79,33 +89,22 @@ impl fmt::Display for NamedStep<'_> {
                 right,
             } => {
                 let s = self.names.subject(owner);
-                let d = self.names.subject(loser);
-                let o = self.names.object(object);
-                let r = name_at(self.names.rights, right);
+                let (d, o, r) = self.names.holding(loser, object, right);
                 write!(f, "(revoke {s} {d} {o} {r})")
             }
         }
     }
 }
 
-// A question with the names of its parts.
-#[derive(Clone, Copy)]
-pub struct NamedQuestion<'a> {
-    pub names: Names<'a>,
-    pub question: Question,
-}
-
-impl fmt::Display for NamedQuestion<'_> {
+impl fmt::Display for Named<'_, Question> {
     fn fmt<W: fmt::Write>(&self, f: &mut fmt::Formatter<W>) -> fmt::Result {
-        match self.question {
+        match self.shown {
             Question::Can {
                 subject,
                 object,
                 right,
             } => {
-                let s = self.names.subject(subject);
-                let o = self.names.object(object);
-                let r = name_at(self.names.rights, right);
+                let (s, o, r) = self.names.holding(subject, object, right);
                 write!(f, "(can {s} {o} {r})")
             }
             Question::CanNew {
@@ -114,10 +113,33 @@ impl fmt::Display for NamedQuestion<'_> {
                 right,
             } => {
                 let s = self.names.subject(subject);
-                let t = name_at(self.names.object_types, kind);
-                let r = name_at(self.names.rights, right);
+                let t = self.names.object_type(kind);
+                let r = self.names.right(right);
                 write!(f, "(can-new {s} {t} {r})")
             }
         }
+    }
+}
+
+// What a subject holds for an object.
+#[derive(Clone, Copy)]
+pub struct Cell {
+    pub subject: usize,
+    pub object: usize,
+    pub held: RightSet,
+}
+
+impl fmt::Display for Named<'_, Cell> {
+    fn fmt<W: fmt::Write>(&self, f: &mut fmt::Formatter<W>) -> fmt::Result {
+        let s = self.names.subject(self.shown.subject);
+        let o = self.names.object(self.shown.object);
+        write!(f, "{s} {o} (")?;
+        for (i, right) in self.shown.held.members().enumerate() {
+            if i > 0 {
+                f.write_str(" ")?;
+            }
+            f.write_str(self.names.right(right.number()))?;
+        }
+        f.write_str(")")
     }
 }

@@ -1,8 +1,9 @@
 // A paper review. An author owns the papers that it creates, and may have a checker see them; a checker who has seen a
 // paper may give an author its ok; an author with own and ok may print.
 use crate::names::Names;
-use crate::walk::{Watch, accepted, ask, walk};
-use monitor::{Step, Table, TableDraft};
+use crate::walk::{Task, Watch, accepted};
+use monitor::{Table, TableDraft};
+use rights::Refusal;
 use rows::{Draft, RowBook};
 use safety::Question;
 use std::alloc::Global;
@@ -31,93 +32,38 @@ const P1: usize = 0;
 
 const P2: usize = 1;
 
+fn declare(draft: &mut Draft) -> Result<(), Refusal> {
+    for _ in 0..4 {
+        draft.add_right()?;
+    }
+    draft.add_subject_type()?;
+    draft.add_subject_type()?;
+    draft.add_object_type()?;
+    draft.set_owner(OWN)?;
+    draft.add_creation(AUTHOR, PAPER, &[OWN])?;
+    draft.add_grant(AUTHOR, CHECKER, PAPER, &[OWN], &[SEEN])?;
+    draft.add_grant(CHECKER, AUTHOR, PAPER, &[SEEN], &[OK])?;
+    draft.add_transform(AUTHOR, PAPER, &[OWN, OK], &[PRINT])
+}
+
 fn book(heap: Global) -> anyhow::Result<RowBook> {
     let mut draft = Draft::new(heap)?;
-    for _ in 0..4 {
-        accepted(draft.add_right())?;
-    }
-    accepted(draft.add_subject_type())?;
-    accepted(draft.add_subject_type())?;
-    accepted(draft.add_object_type())?;
-    accepted(draft.set_owner(OWN))?;
-    accepted(draft.add_creation(AUTHOR, PAPER, &[OWN]))?;
-    accepted(draft.add_grant(AUTHOR, CHECKER, PAPER, &[OWN], &[SEEN]))?;
-    accepted(draft.add_grant(CHECKER, AUTHOR, PAPER, &[SEEN], &[OK]))?;
-    accepted(draft.add_transform(AUTHOR, PAPER, &[OWN, OK], &[PRINT]))?;
+    accepted(declare(&mut draft))?;
     Ok(draft.fix())
+}
+
+fn build(draft: &mut TableDraft) -> Result<(), Refusal> {
+    draft.add_subject(AUTHOR)?;
+    draft.add_subject(CHECKER)?;
+    draft.add_subject(AUTHOR)?;
+    draft.add_object(PAPER)?;
+    draft.hold(ANN, P1, OWN)
 }
 
 fn table(heap: Global) -> anyhow::Result<Table> {
     let mut draft = TableDraft::new(heap)?;
-    accepted(draft.add_subject(AUTHOR))?;
-    accepted(draft.add_subject(CHECKER))?;
-    accepted(draft.add_subject(AUTHOR))?;
-    accepted(draft.add_object(PAPER))?;
-    accepted(draft.hold(ANN, P1, OWN))?;
+    accepted(build(&mut draft))?;
     Ok(draft.start())
-}
-
-fn transform(subject: usize, object: usize, right: usize) -> Watch {
-    let step = Step::Transform {
-        subject,
-        object,
-        right,
-    };
-    Watch {
-        step,
-        subject,
-        object,
-    }
-}
-
-fn grant(giver: usize, receiver: usize, object: usize, right: usize) -> Watch {
-    let step = Step::Grant {
-        giver,
-        receiver,
-        object,
-        right,
-    };
-    Watch {
-        step,
-        subject: receiver,
-        object,
-    }
-}
-
-fn revoke(owner: usize, loser: usize, object: usize, right: usize) -> Watch {
-    let step = Step::Revoke {
-        owner,
-        loser,
-        object,
-        right,
-    };
-    Watch {
-        step,
-        subject: loser,
-        object,
-    }
-}
-
-fn create(subject: usize, object: usize) -> Watch {
-    let step = Step::Create {
-        subject,
-        kind: PAPER,
-    };
-    Watch {
-        step,
-        subject,
-        object,
-    }
-}
-
-// The task with these objects named; one that is not made yet has no name.
-fn names<'a>(objects: &'a [&'a str]) -> Names<'a> {
-    Names {
-        rights: &["own", "seen", "ok", "print"],
-        object_types: &["paper"],
-        subjects: &["ann", "ben", "cy"],
-        objects,
-    }
 }
 
 fn can(subject: usize, right: usize) -> Question {
@@ -136,33 +82,40 @@ fn can_new(subject: usize, right: usize) -> Question {
     }
 }
 
-pub fn run(rt: &HostRuntime, list: &mut [Step]) -> anyhow::Result<()> {
-    let book = book(rt.alloc())?;
-    let mut table = table(rt.alloc())?;
+pub fn run(rt: &impl Print, heap: Global) -> anyhow::Result<()> {
+    let names = Names {
+        rights: &["own", "seen", "ok", "print"],
+        object_types: &["paper"],
+        subjects: &["ann", "ben", "cy"],
+        objects: &["p1"],
+    };
+    let mut task = Task::new(rt, heap, names, book(heap)?, table(heap)?)?;
     println!(rt; "paper review: authors ann and cy, checker ben; ann owns p1")?;
-    let questions = [
+    task.ask(&[
         can(ANN, PRINT),
         can(CY, PRINT),
         can_new(CY, PRINT),
         can(ANN, OWN),
-    ];
-    ask(rt, names(&["p1"]), &book, &mut table, &questions, list)?;
-    let watches = [
-        transform(ANN, P1, PRINT),
-        grant(ANN, BEN, P1, SEEN),
-        grant(ANN, BEN, P1, SEEN),
-        grant(BEN, ANN, P1, OK),
-        transform(ANN, P1, PRINT),
-        grant(ANN, ANN, P1, SEEN),
-        grant(CY, BEN, P1, SEEN),
-        revoke(CY, BEN, P1, SEEN),
-        revoke(ANN, BEN, P1, SEEN),
-        revoke(ANN, BEN, P1, SEEN),
-        create(BEN, P1),
-        create(CY, P2),
-        grant(CY, BEN, P2, SEEN),
-        grant(BEN, CY, P2, OK),
-        transform(CY, P2, PRINT),
-    ];
-    walk(rt, names(&["p1", "p2"]), &book, &mut table, &watches, list)
+    ])?;
+    task.names = Names {
+        objects: &["p1", "p2"],
+        ..names
+    };
+    task.walk(&[
+        Watch::transform(ANN, P1, PRINT),
+        Watch::grant(ANN, BEN, P1, SEEN),
+        Watch::grant(ANN, BEN, P1, SEEN),
+        Watch::grant(BEN, ANN, P1, OK),
+        Watch::transform(ANN, P1, PRINT),
+        Watch::grant(ANN, ANN, P1, SEEN),
+        Watch::grant(CY, BEN, P1, SEEN),
+        Watch::revoke(CY, BEN, P1, SEEN),
+        Watch::revoke(ANN, BEN, P1, SEEN),
+        Watch::revoke(ANN, BEN, P1, SEEN),
+        Watch::create(BEN, PAPER, P1),
+        Watch::create(CY, PAPER, P2),
+        Watch::grant(CY, BEN, P2, SEEN),
+        Watch::grant(BEN, CY, P2, OK),
+        Watch::transform(CY, P2, PRINT),
+    ])
 }

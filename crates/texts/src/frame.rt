@@ -1,27 +1,29 @@
 // The frames of texts in the input.
-ghost use Rattle.std.specs.Prelude.{◌<◌, ◌≤◌, length, IfSome};
+ghost use Rattle.std.specs.Prelude.{◌+◌, ◌<◌, length, IfSome};
 
-// Where the next text begins and ends, from this place of the input on.
-pub fn next_text(input: &[u8], from: usize) -> Option<(usize, usize)>
-    ensures { IfSome result (λ p. (from < p.0) × (p.0 ≤ p.1) × (p.1 ≤ length input.now)) }
-{
-    let mut size: usize = 0;
-    for at in from..input.len() {
-        match input[at] {
-            b'\n' => {
-                let start = at + 1;
-                if size > input.len() - start {
-                    return None;
-                }
-                return Some((start, start + size));
-            }
-            digit @ b'0'..=b'9' => {
-                size = size
-                    .checked_mul(10)?
-                    .checked_add(usize::from(digit - b'0'))?;
-            }
-            _ => return None,
+// The number that these digits write; no digit writes 0.
+fn number(digits: &[u8]) -> Option<usize> {
+    let mut number: usize = 0;
+    for digit in digits {
+        if !digit.is_ascii_digit() {
+            return None;
         }
+        number = number
+            .checked_mul(10)?
+            .checked_add(usize::from(*digit - b'0'))?;
     }
-    None
+    Some(number)
+}
+
+// The first text of the input, and what follows it.
+pub fn next_text(input: &[u8]) -> Option<(&[u8], &[u8])>
+    ensures { IfSome result (λ p. length p.0.now + length p.1.now < length input.now) }
+{
+    let end = input.iter().position(|b| *b == b'\n')?;
+    let size = number(&input[..end])?;
+    let rest = &input[end + 1..];
+    if size > rest.len() {
+        return None;
+    }
+    Some(rest.split_at(size))
 }

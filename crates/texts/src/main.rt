@@ -32,7 +32,7 @@ use std::io::{BufWriter, Read, Write};
 fn judge<W: Write>(heap: Global, out: &mut W, scheme: &mut Scheme, text: &[u8]) -> io::Result<()> {
     match read_scheme(heap, text, scheme) {
         Ok(()) => show_scheme(heap, out, scheme),
-        Err(Failure::Fault(fault)) => show_fault(out, fault),
+        Err(Failure::Because(fault)) => show_fault(out, fault),
         Err(Failure::Memory) => writeln!(out, "no memory"),
     }
 }
@@ -43,10 +43,10 @@ fn main(rt: HostRuntime) -> io::Result<()> {
     rt.stdin().read_to_end(&mut input)?;
     let mut out = BufWriter::new(heap, rt.stdout())?;
     let mut scheme = Scheme::empty(heap)?;
-    let mut from = 0;
-    while let Some((start, end)) = next_text(&input, from) {
-        judge(heap, &mut out, &mut scheme, &input[start..end])?;
-        from = end;
+    let mut rest = input.as_slice();
+    while let Some((text, later)) = next_text(rest) {
+        judge(heap, &mut out, &mut scheme, text)?;
+        rest = later;
     }
     out.flush()
 }

@@ -1,179 +1,194 @@
 // What a text comes to, printed.
 use crate::probe::probes;
 use books::RuleBook;
-use entries::kind::RightKind;
 use entries::{Entry, Keyed};
-use faults::{Fault, Layer};
-use rights::{ObjectType, Refusal, RightSet, SubjectType};
+use faults::Fault;
+use rights::kind::{Kind, RightKind};
+use rights::{Number, ObjectType, Right, RightSet, SubjectType};
 use schemes::Scheme;
-use std::alloc::Global;
+use std::alloc::{AllocError, Global};
 use std::io;
 use std::io::Write;
 
 pub fn show_fault<W: Write>(out: &mut W, fault: Fault) -> io::Result<()> {
     let number = fault.number();
     let line = fault.line;
-    let layer = match fault.layer() {
-        Layer::Words => "words",
-        Layer::Forms => "forms",
-        Layer::Meaning => "meaning",
-    };
+    let layer = fault.layer();
     writeln!(out, "fault {number} {line} {layer}")
 }
 
-// The name of this number after a space.
-fn show_name<W: Write, K>(out: &mut W, entries: &[Entry<K>], number: usize) -> io::Result<()> {
-    out.write_all(b" ")?;
-    if number < entries.len() {
-        out.write_all(entries[number].key())?;
-    }
-    Ok(())
+// The numbers of a kind of which so many are declared.
+fn declared<K: Kind>(heap: Global, count: usize) -> Result<Vec<Number<K>>, AllocError> {
+    (0..count)
+        .filter_map(|number| Number::new(number).ok())
+        .collect(heap)
 }
 
-fn show_names<W: Write, K>(out: &mut W, label: &[u8], entries: &[Entry<K>]) -> io::Result<()> {
-    out.write_all(label)?;
-    for number in 0..entries.len() {
-        show_name(out, entries, number)?;
-    }
-    out.write_all(b"\n")
+// The book's answer to a subject of one type: what it may add, or give to one of another type.
+#[derive(Clone, Copy)]
+struct Asked {
+    by: SubjectType,
+    to: Option<SubjectType>,
+    on: ObjectType,
 }
 
-// The rights of a set, each after a space.
-fn show_set<W: Write>(out: &mut W, rights: &[Entry<RightKind>], set: RightSet) -> io::Result<()> {
-    for right in set.members() {
-        show_name(out, rights, right.number())?;
-    }
-    Ok(())
+// A scheme, and where it is printed.
+#[derive(Drop)]
+struct Printer<'a, W> {
+    out: &'a mut W,
+    scheme: &'a Scheme,
 }
 
-// The rights of a set with commas between them, or `-`.
-fn show_held<W: Write>(out: &mut W, rights: &[Entry<RightKind>], set: RightSet) -> io::Result<()> {
-    if set.is_empty() {
-        return out.write_all(b" -");
+impl<W: Write> Printer<'_, W> {
+    fn bytes(&mut self, bytes: &[u8]) -> io::Result<()> {
+        self.out.write_all(bytes)
     }
-    let mut mark: &[u8] = b" ";
-    for right in set.members() {
-        out.write_all(mark)?;
-        mark = b",";
-        let number = right.number();
-        if number < rights.len() {
-            out.write_all(rights[number].key())?;
+
+    // The name of this number.
+    fn name<K: Kind>(&mut self, entries: &[Entry<K>], number: Number<K>) -> io::Result<()> {
+        match entries.get(number.number()) {
+            Some(entry) => self.bytes(entry.key()),
+            None => Ok(()),
         }
     }
-    Ok(())
-}
 
-fn show_owner<W: Write>(out: &mut W, scheme: &Scheme) -> io::Result<()> {
-    out.write_all(b"owner")?;
-    match scheme.book().owner() {
-        Some(right) => show_name(out, scheme.rights(), right.number())?,
-        None => out.write_all(b" -")?,
+    fn right(&mut self, right: Right) -> io::Result<()> {
+        let rights = self.scheme.rights();
+        self.name(rights, right)
     }
-    out.write_all(b"\n")
-}
 
-// The creation of a pair of types, if there is one.
-fn show_creation<W: Write>(out: &mut W, scheme: &Scheme, by: usize, on: usize) -> io::Result<()> {
-    let Ok(subject) = SubjectType::new(by) else {
-        return Ok(());
-    };
-    let Ok(object) = ObjectType::new(on) else {
-        return Ok(());
-    };
-    let Some(gets) = scheme.book().creation(subject, object) else {
-        return Ok(());
-    };
-    out.write_all(b"create")?;
-    show_name(out, scheme.subject_types(), by)?;
-    show_name(out, scheme.object_types(), on)?;
-    out.write_all(b" :")?;
-    show_set(out, scheme.rights(), gets)?;
-    out.write_all(b"\n")
-}
-
-// What the book answers a subject of type `by`: what it may add, or give to one of type `to`.
-fn answer(
-    scheme: &Scheme,
-    by: usize,
-    to: Option<usize>,
-    on: usize,
-    held: RightSet,
-) -> Result<RightSet, Refusal> {
-    let subject = SubjectType::new(by)?;
-    let object = ObjectType::new(on)?;
-    match to {
-        None => Ok(scheme.book().may_add(subject, object, held)),
-        Some(to) => Ok(
-            scheme
-                .book()
-                .may_give(subject, SubjectType::new(to)?, object, held),
-        ),
+    fn subject_type(&mut self, number: SubjectType) -> io::Result<()> {
+        let types = self.scheme.subject_types();
+        self.bytes(b" ")?;
+        self.name(types, number)
     }
-}
 
-// The answers to the probes, where they are not empty.
-fn show_answers<W: Write>(
-    out: &mut W,
-    scheme: &Scheme,
-    by: usize,
-    to: Option<usize>,
-    on: usize,
-    held: &[RightSet],
-) -> io::Result<()> {
-    for set in held {
-        let Ok(answer) = answer(scheme, by, to, on, *set) else {
+    fn object_type(&mut self, number: ObjectType) -> io::Result<()> {
+        let types = self.scheme.object_types();
+        self.bytes(b" ")?;
+        self.name(types, number)
+    }
+
+    fn names<K>(&mut self, label: &[u8], entries: &[Entry<K>]) -> io::Result<()> {
+        self.bytes(label)?;
+        for entry in entries {
+            self.bytes(b" ")?;
+            self.bytes(entry.key())?;
+        }
+        self.bytes(b"\n")
+    }
+
+    // The rights of a set behind a colon.
+    fn set(&mut self, set: RightSet) -> io::Result<()> {
+        self.bytes(b" :")?;
+        for right in set.members() {
+            self.bytes(b" ")?;
+            self.right(right)?;
+        }
+        self.bytes(b"\n")
+    }
+
+    // The rights of a set with commas between them, or `-`.
+    fn held(&mut self, set: RightSet) -> io::Result<()> {
+        if set.is_empty() {
+            return self.bytes(b" -");
+        }
+        for (i, right) in set.members().enumerate() {
+            self.bytes(if i == 0 { b" " } else { b"," })?;
+            self.right(right)?;
+        }
+        Ok(())
+    }
+
+    fn owner(&mut self) -> io::Result<()> {
+        self.bytes(b"owner ")?;
+        match self.scheme.book().owner() {
+            Some(right) => self.right(right)?,
+            None => self.bytes(b"-")?,
+        }
+        self.bytes(b"\n")
+    }
+
+    // The creation of a pair of types, if there is one.
+    fn creation(&mut self, by: SubjectType, on: ObjectType) -> io::Result<()> {
+        let Some(gets) = self.scheme.book().creation(by, on) else {
             return Ok(());
         };
-        if answer.is_empty() {
-            continue;
-        }
-        match to {
-            None => out.write_all(b"add")?,
-            Some(_) => out.write_all(b"give")?,
-        }
-        show_name(out, scheme.subject_types(), by)?;
-        if let Some(to) = to {
-            show_name(out, scheme.subject_types(), to)?;
-        }
-        show_name(out, scheme.object_types(), on)?;
-        show_held(out, scheme.rights(), *set)?;
-        out.write_all(b" :")?;
-        show_set(out, scheme.rights(), answer)?;
-        out.write_all(b"\n")?;
+        self.bytes(b"create")?;
+        self.subject_type(by)?;
+        self.object_type(on)?;
+        self.set(gets)
     }
-    Ok(())
-}
 
-fn show_book<W: Write>(out: &mut W, scheme: &Scheme, held: &[RightSet]) -> io::Result<()> {
-    let subjects = scheme.subject_types().len();
-    let objects = scheme.object_types().len();
-    for by in 0..subjects {
-        for on in 0..objects {
-            show_creation(out, scheme, by, on)?;
+    // What the book answers to who holds this set, where that is something.
+    fn answer(&mut self, asked: &Asked, held: RightSet) -> io::Result<()> {
+        let Asked { by, to, on } = *asked;
+        let book = self.scheme.book();
+        let answer = match to {
+            None => book.may_add(by, on, held),
+            Some(to) => book.may_give(by, to, on, held),
+        };
+        if answer.is_empty() {
+            return Ok(());
         }
-    }
-    for by in 0..subjects {
-        for on in 0..objects {
-            show_answers(out, scheme, by, None, on, held)?;
+        self.bytes(if to.is_none() { b"add" } else { b"give" })?;
+        self.subject_type(by)?;
+        if let Some(to) = to {
+            self.subject_type(to)?;
         }
+        self.object_type(on)?;
+        self.held(held)?;
+        self.set(answer)
     }
-    for by in 0..subjects {
-        for to in 0..subjects {
-            for on in 0..objects {
-                show_answers(out, scheme, by, Some(to), on, held)?;
+
+    // The answers to who holds each of these sets.
+    fn answers(&mut self, asked: &Asked, held: &[RightSet]) -> io::Result<()> {
+        for set in held {
+            self.answer(asked, *set)?;
+        }
+        Ok(())
+    }
+
+    fn book(
+        &mut self,
+        subjects: &[SubjectType],
+        objects: &[ObjectType],
+        held: &[RightSet],
+    ) -> io::Result<()> {
+        for by in subjects {
+            for on in objects {
+                self.creation(*by, *on)?;
             }
         }
+        for by in subjects {
+            for on in objects {
+                let (by, to, on) = (*by, None, *on);
+                self.answers(&Asked { by, to, on }, held)?;
+            }
+        }
+        for by in subjects {
+            for to in subjects {
+                for on in objects {
+                    let (by, to, on) = (*by, Some(*to), *on);
+                    self.answers(&Asked { by, to, on }, held)?;
+                }
+            }
+        }
+        Ok(())
     }
-    Ok(())
 }
 
 pub fn show_scheme<W: Write>(heap: Global, out: &mut W, scheme: &Scheme) -> io::Result<()> {
-    let held = probes(heap, scheme.rights().len())?;
-    out.write_all(b"scheme\n")?;
-    show_names(out, b"rights", scheme.rights())?;
-    show_names(out, b"subject-types", scheme.subject_types())?;
-    show_names(out, b"object-types", scheme.object_types())?;
-    show_owner(out, scheme)?;
-    show_book(out, scheme, &held)?;
-    out.write_all(b"end\n")
+    let rights = declared(heap, scheme.rights().len())?;
+    let held = probes(heap, &rights)?;
+    let subjects = declared(heap, scheme.subject_types().len())?;
+    let objects = declared(heap, scheme.object_types().len())?;
+    let mut printer = Printer { out, scheme };
+    printer.bytes(b"scheme\n")?;
+    printer.names(b"rights", scheme.rights())?;
+    printer.names(b"subject-types", scheme.subject_types())?;
+    printer.names(b"object-types", scheme.object_types())?;
+    printer.owner()?;
+    printer.book(&subjects, &objects, &held)?;
+    printer.bytes(b"end\n")
 }

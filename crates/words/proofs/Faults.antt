@@ -1,7 +1,6 @@
 -- A name, byte by byte: what is wrong with it from a place on.
-use Rattle.std.proofs.Common.{◌≡◌, ℕ, ◌+◌, ◌<◌, ◌≤◌, cond, List, length, get_or, drop, Some, None, Option, sym, refl, ap, ◌∙◌, add-one, arith, drop-cons}
-use Rattle.std.proofs.lemmas.List.{drop_all}
-use Rattle.std.proofs.lemmas.Bool.{lt-ltb, le-ltb, eq-eqb, ne_eqb}
+use Rattle.std.proofs.Common.{◌≡◌, ℕ, ◌+◌, ◌<◌, cond, List, length, get_or, drop, Some, Option, sym, refl, ap, ◌∙◌, add-one, arith, drop-cons}
+use Rattle.std.proofs.lemmas.Bool.{lt-ltb, le-ltb, eq-eqb}
 use Rattle.rights.specs.declared.refusal.Refusal.{Refusal}
 use Rattle.rights.specs.declared.refusal.Refusal.TheVariants.{LineBroken, WordTooLong}
 use Rattle.grammar.specs.Bytes.{Class, word_byte, opening, closing, space, line_end, bad, class}
@@ -49,10 +48,3 @@ module _ (name : List ℕ) where
   pub too_long : (at : ℕ) → RightUpTo at → at < length name → at ≡ 24
       → not_a_word name ≡ Some (reason (class (get_or name at 0)) 0 at)
   too_long at so h e = so ∙ at_byte at h ∙ full_stops (class (get_or name at 0)) at _ e
-
-  pub all_right : (at : ℕ) → RightUpTo at → length name ≤ at → 0 < at → not_a_word name ≡ None
-  all_right at so h some =
-      so ∙ ap (word_fault at) (drop_all at name h) ∙ ap (λ t. cond t (Some LineBroken) None) (ne_eqb at 0 (λ e. omega arith))
-
-  pub none_there : length name ≡ 0 → not_a_word name ≡ Some LineBroken
-  none_there h = ap (word_fault 0) (drop_all 0 name (omega arith))

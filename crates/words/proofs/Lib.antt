@@ -2,4 +2,4 @@ pub mod Bytewise
 pub mod Between
 pub mod Means
 pub mod Faults
-pub mod Taken
+pub mod Shapes

@@ -3,9 +3,9 @@ use Rattle.std.proofs.Common.{ℕ, List, drop}
 use Rattle.grammar.specs.Items.{Items}
 use Rattle.grammar.specs.Reader.{read}
 use Rattle.grammar.proofs.Claims.{only_good_lines, refused_at_first}
+use Rattle.words.specs.Stops.{Stop}
 use Rattle.words.specs.Tree.{Refuses, LineRead, LineStands, LineFails}
-use Rattle.words.specs.declared.stop.Stop.{Stop}
-use Rattle.words.specs.declared.stop.Stop.TheVariants.{Memory, At}
+use Rattle.words.specs.declared.stop.Failed.TheVariants.{Memory, Because}
 
 pub line_stands : (text : List ℕ) (F : Items) (end : ℕ) → LineRead text F end → LineStands text F end
 line_stands text F end L =
@@ -14,4 +14,4 @@ line_stands text F end L =
 
 pub line_fails : (text : List ℕ) (e : Stop) → Refuses e (read text) → LineFails text e
 line_fails text Memory h = tt
-line_fails text (At why k) h = refused_at_first text why k h
+line_fails text (Because a) h = refused_at_first text a.refusal a.place h

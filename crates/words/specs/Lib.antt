@@ -1,3 +1,3 @@
+pub mod Stops
 pub mod Tree
 pub mod Names
-pub mod Taking

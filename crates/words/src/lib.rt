@@ -2,14 +2,12 @@
 #![tactic(auto)]
 
 pub mod limits;
-pub mod parts;
 mod reader;
 pub mod stop;
 pub mod tree;
 mod word;
 
-pub use parts::Parts;
 pub use reader::line;
-pub use stop::{Denial, Stop};
+pub use stop::{At, Denial, Failed, Stop};
 pub use tree::{Item, Items, Word};
 pub use word::test_word;

@@ -1,121 +1,132 @@
 // The reader of a line.
-ghost use Rattle.std.specs.Prelude.{◌≡◌, ◌-◌, ◌<◌, ◌≤◌, length, MatchResult, slice_index};
+ghost use Rattle.std.specs.Prelude.{◌≡◌, ◌+◌, ◌-◌, ◌<◌, ◌≤◌, length, take, MatchResult, slice_index};
+ghost use Rattle.std.specs.List.{prefix_len};
 ghost use Rattle.grammar.specs.Bytes.{class, word_byte};
-ghost use Rattle.grammar.specs.Limits.{max_depth};
+ghost use Rattle.grammar.specs.Limits.{max_depth, max_word};
 ghost use Rattle.grammar.specs.Reader.{read};
-ghost use Rattle.words.specs.Tree.{shape, Refuses, WordEnds, ItemRead, ListRead, LineRead, WordRefused, ItemRefused, ListRefused, ItemDue, LineStands, LineFails};
+ghost use Rattle.words.specs.Names.{is_letter};
+ghost use Rattle.words.specs.Stops.{stopped};
+ghost use Rattle.words.specs.Tree.{shape, Refuses, ByteThere, WordEnds, WordRefused, ItemAnswered, ListAnswered, LineRead, LineStands, LineFails};
 
 use crate::limits::{MAX_DEPTH, MAX_WORD};
-use crate::stop::Stop;
-use crate::tree::{Items, Word};
+use crate::stop::{At, Failed, Stop};
+use crate::tree::{Item, Items, Word};
 use crate::word::{is_word_byte, refusal_of};
 use rights::Refusal;
 use std::alloc::Global;
 
-// Where the word that begins at `at` ends.
-fn word_end(text: &[u8], at: usize) -> Result<usize, Stop>
-    requires within { at < length text.now }
-    requires word { class (slice_index text.now at) ≡ word_byte }
-    ensures { MatchResult result (WordEnds text.now at) (WordRefused text.now at) }
+// How many bytes of a word stand at the front; one more than a word may have stand for any more.
+fn letters(text: &[u8]) -> usize
+    ensures { result ≡ prefix_len is_letter (take (max_word + 1) text.now) }
 {
-    let mut end = at + 1;
-    while end < text.len() && is_word_byte(text[end]) {
-        if end - at == MAX_WORD {
-            return Err(Stop::At(Refusal::WordTooLong, end));
-        }
-        end += 1;
-    }
-    Ok(end)
+    text.iter()
+        .take(MAX_WORD + 1)
+        .take_while(|b| is_word_byte(**b))
+        .count()
 }
 
-// An item, which follows the items of a list, in which `room` more lists may be opened.
-#[cycle(item_list)]
-fn item(
+fn stop(refusal: Refusal, place: usize) -> Stop
+    ensures { result ≡ stopped refusal place }
+{
+    Failed::Because(At { refusal, place })
+}
+
+// Reads the text at its first line, and keeps what it reads on the heap.
+#[derive(Clone, Copy, Drop)]
+struct Reader<'a> {
     heap: Global,
-    text: &[u8],
-    at: usize,
-    room: usize,
-    items: Items,
-) -> Result<(Items, usize), Stop>
-    requires open { room < max_depth }
-    requires due { ItemDue text.now at (shape text.now items) }
-    ensures { MatchResult result (λ p. ItemRead text.now at (max_depth - room) (shape text.now items) (shape text.now p.0) p.1) (ItemRefused text.now at (max_depth - room) (shape text.now items)) }
-{
-    if at >= text.len() {
-        return Err(Stop::At(Refusal::LineBroken, at));
-    }
-    let b = text[at];
-    if b as char == '(' {
-        if room == 0 {
-            return Err(Stop::At(Refusal::TooDeep, at));
-        }
-        let (inner, end) = list(heap, text, at + 1, room - 1)?;
-        let items = Box::new(heap, items)?;
-        let inner = Box::new(heap, inner)?;
-        return Ok((Items::WithList(items, inner), end));
-    }
-    if is_word_byte(b) {
-        let upto = word_end(text, at)?;
-        let items = Box::new(heap, items)?;
-        return Ok((Items::WithWord(items, Word { from: at, upto }), upto));
-    }
-    Err(Stop::At(refusal_of(b, room, 0), at))
+    text: &'a [u8],
 }
 
-// The items of a list, from behind its opening bracket up to behind its closing one.
-#[cycle(item_list)]
-fn list(heap: Global, text: &[u8], from: usize, room: usize) -> Result<(Items, usize), Stop>
-    requires within { from ≤ length text.now }
-    requires open { room < max_depth }
-    ensures { MatchResult result (λ p. ListRead text.now from (max_depth - room) (shape text.now p.0) p.1) (ListRefused text.now from (max_depth - room)) }
-{
-    if from < text.len() && text[from] as char == ')' {
-        return Ok((Items::Empty, from + 1));
+impl Reader<'_> {
+    // The byte at a place: a line does not end with its text.
+    fn byte(&self, at: usize) -> Result<u8, Stop>
+        ensures { ByteThere self.now.text.now at result }
+    {
+        self.text
+            .get(at)
+            .copied()
+            .ok_or(stop(Refusal::LineBroken, at))
     }
-    let mut items = Items::Empty;
-    let mut at = from;
-    loop {
-        let (more, end) = item(heap, text, at, room, items)?;
-        if end >= text.len() {
-            return Err(Stop::At(Refusal::LineBroken, end));
+
+    // Where the word that begins at `at` ends.
+    fn word_end(&self, at: usize) -> Result<usize, Stop>
+        requires within { at < length self.now.text.now }
+        requires word { class (slice_index self.now.text.now at) ≡ word_byte }
+        ensures { MatchResult result (WordEnds self.now.text.now at) (WordRefused self.now.text.now at) }
+    {
+        let letters = letters(&self.text[at..]);
+        if letters > MAX_WORD {
+            return Err(stop(Refusal::WordTooLong, at + MAX_WORD));
         }
-        let b = text[end];
+        Ok(at + letters)
+    }
+
+    // An item of a list in which `room` more lists may be opened, whatever stands before it.
+    #[cycle(item_list)]
+    fn item(&self, at: usize, room: usize) -> Result<(Item, usize), Stop>
+        requires open { room < max_depth }
+        ensures { ItemAnswered self.now.text.now at (max_depth - room) result }
+    {
+        let b = self.byte(at)?;
         match b as char {
-            ')' => return Ok((more, end + 1)),
-            ' ' => {
-                items = more;
-                at = end + 1;
+            '(' if room > 0 => {
+                let (items, end) = self.list(at + 1, room - 1)?;
+                Ok((Item::List(items), end))
             }
-            _ => return Err(Stop::At(refusal_of(b, room, 0), end)),
+            _ if is_word_byte(b) => {
+                let upto = self.word_end(at)?;
+                Ok((Item::Word(Word { from: at, upto }), upto))
+            }
+            _ => Err(stop(refusal_of(b, room, 0), at)),
         }
     }
-}
 
-fn read_line(heap: Global, text: &[u8]) -> Result<(Items, usize), Stop>
-    ensures { MatchResult result (λ p. LineRead text.now (shape text.now p.0) p.1) (λ e. Refuses e (read text.now)) }
-{
-    if text.is_empty() {
-        return Err(Stop::At(Refusal::LineBroken, 0));
+    // The items of a list, from behind its opening bracket up to behind its closing one.
+    #[cycle(item_list)]
+    fn list(&self, from: usize, room: usize) -> Result<(Items, usize), Stop>
+        requires within { from ≤ length self.now.text.now }
+        requires open { room < max_depth }
+        ensures { ListAnswered self.now.text.now from (max_depth - room) result }
+    {
+        let mut items = Vec::new(self.heap);
+        if self.byte(from)? as char == ')' {
+            return Ok((items, from + 1));
+        }
+        // Each item says where the next one begins.
+        let mut at = from;
+        loop {
+            let (item, end) = self.item(at, room)?;
+            items.push(item)?;
+            let b = self.byte(end)?;
+            match b as char {
+                ')' => return Ok((items, end + 1)),
+                ' ' => at = end + 1,
+                _ => return Err(stop(refusal_of(b, room, 0), end)),
+            }
+        }
     }
-    let first = text[0];
-    if first as char != '(' {
-        return Err(Stop::At(refusal_of(first, MAX_DEPTH, 0), 0));
+
+    fn form(&self) -> Result<(Items, usize), Stop>
+        ensures { MatchResult result (λ p. LineRead self.now.text.now (shape self.now.text.now p.0.items) p.1) (λ e. Refuses e (read self.now.text.now)) }
+    {
+        let first = self.byte(0)?;
+        if first as char != '(' {
+            return Err(stop(refusal_of(first, MAX_DEPTH, 0), 0));
+        }
+        let (form, end) = self.list(1, MAX_DEPTH - 1)?;
+        let last = self.byte(end)?;
+        if last as char != '\n' {
+            return Err(stop(refusal_of(last, MAX_DEPTH, 0), end));
+        }
+        Ok((form, end + 1))
     }
-    let (form, end) = list(heap, text, 1, MAX_DEPTH - 1)?;
-    if end >= text.len() {
-        return Err(Stop::At(Refusal::LineBroken, end));
-    }
-    let b = text[end];
-    if b as char != '\n' {
-        return Err(Stop::At(refusal_of(b, MAX_DEPTH, 0), end));
-    }
-    Ok((form, end + 1))
 }
 
 // The first line of a text: its form, and where the next line begins.
 pub fn line(heap: Global, text: &[u8]) -> Result<(Items, usize), Stop>
-    ensures reads { MatchResult result (λ p. LineRead text.now (shape text.now p.0) p.1) (λ e. Refuses e (read text.now)) }
-    ensures means { MatchResult result (λ p. LineStands text.now (shape text.now p.0) p.1) (LineFails text.now) }
+    ensures reads { MatchResult result (λ p. LineRead text.now (shape text.now p.0.items) p.1) (λ e. Refuses e (read text.now)) }
+    ensures means { MatchResult result (λ p. LineStands text.now (shape text.now p.0.items) p.1) (LineFails text.now) }
 {
-    read_line(heap, text)
+    Reader { heap, text }.form()
 }

@@ -1,54 +1,50 @@
 // Why a reading ends without an answer.
 ghost use Rattle.std.specs.Prelude.{◌≡◌};
-ghost use Rattle.words.specs.declared.stop.Stop.TheVariants as stops;
-ghost use Rattle.words.specs.declared.stop.Denial.TheVariants as denials;
+ghost use Rattle.words.specs.declared.stop.Failed.TheVariants as failed;
 
 use rights::Refusal;
 use std::alloc::{AllocError, AllocFailed};
 
-// Why a line is not read.
 #[derive(Drop)]
-pub enum Stop {
+pub enum Failed<E> {
+    // want of memory, which is no fault of what is read
     Memory,
-    // Refused, at this offset of the line.
-    At(Refusal, usize),
+    Because(E),
 }
 
-impl<T: Drop> From<AllocFailed<T>> for Stop {
-    ghost from_gives = { λ _ r. r ≡ stops.Memory };
+impl<E> From<AllocError> for Failed<E> {
+    ghost from_gives = { λ _ r. r ≡ failed.Memory };
 
-    fn from(_e: AllocFailed<T>) -> Stop {
-        Stop::Memory
+    fn from(_e: AllocError) -> Failed<E> {
+        Failed::Memory
     }
 }
+
+impl<T: Drop, E> From<AllocFailed<T>> for Failed<E> {
+    ghost from_gives = { λ _ r. r ≡ failed.Memory };
+
+    fn from(_e: AllocFailed<T>) -> Failed<E> {
+        Failed::Memory
+    }
+}
+
+// Refused, at this offset of the line.
+#[derive(Drop)]
+pub struct At {
+    pub refusal: Refusal,
+    pub place: usize,
+}
+
+// Why a line is not read.
+pub type Stop = Failed<At>;
 
 // Why what a line says is not done.
-#[derive(Drop)]
-pub enum Denial {
-    Memory,
-    Refused(Refusal),
-}
-
-impl From<AllocError> for Denial {
-    ghost from_gives = { λ _ r. r ≡ denials.Memory };
-
-    fn from(_e: AllocError) -> Denial {
-        Denial::Memory
-    }
-}
-
-impl<T: Drop> From<AllocFailed<T>> for Denial {
-    ghost from_gives = { λ _ r. r ≡ denials.Memory };
-
-    fn from(_e: AllocFailed<T>) -> Denial {
-        Denial::Memory
-    }
-}
+pub type Denial = Failed<Refusal>;
 
 impl From<Refusal> for Denial {
-    ghost from_gives = { λ e r. r ≡ denials.Refused e };
+    ghost from_gives = { λ e r. r ≡ failed.Because e };
 
     fn from(e: Refusal) -> Denial {
-        Denial::Refused(e)
+        Failed::Because(e)
     }
 }

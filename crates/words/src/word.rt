@@ -1,10 +1,10 @@
 // Words by themselves, and why a byte is refused.
-ghost use Rattle.std.specs.Prelude.{◌≡◌, ◌-◌, true, false, ◌≢◌};
-ghost use Rattle.grammar.specs.Bytes.{class, word_byte};
+ghost use Rattle.std.specs.Prelude.{◌≡◌, ◌-◌};
+ghost use Rattle.grammar.specs.Bytes.{class};
 ghost use Rattle.grammar.specs.Limits.{max_depth};
 ghost use Rattle.grammar.specs.Reader.{reason};
 ghost use Rattle.grammar.specs.Words.{not_a_word};
-ghost use Rattle.words.specs.Names.{judged};
+ghost use Rattle.words.specs.Names.{judged, is_letter};
 
 use crate::limits::{MAX_DEPTH, MAX_WORD};
 use classes::class_of;
@@ -12,13 +12,9 @@ use classes::kinds::ByteClass;
 use rights::Refusal;
 
 pub fn is_word_byte(b: u8) -> bool
-    ensures yes { result ≡ true → class b ≡ word_byte }
-    ensures no { result ≡ false → class b ≢ word_byte }
+    ensures { result ≡ is_letter b }
 {
-    match class_of(b) {
-        ByteClass::WordByte => true,
-        _ => false,
-    }
+    class_of(b) == ByteClass::WordByte
 }
 
 // Why a byte is refused, where so many more lists may be opened and so many bytes of a word stand just before.
@@ -40,9 +36,9 @@ pub fn test_word(name: &[u8]) -> Result<(), Refusal>
     if name.is_empty() {
         return Err(Refusal::LineBroken);
     }
-    for at in 0..name.len() {
-        if at == MAX_WORD || !is_word_byte(name[at]) {
-            return Err(refusal_of(name[at], MAX_DEPTH, at));
+    for (at, b) in name.iter().enumerate() {
+        if at == MAX_WORD || !is_word_byte(*b) {
+            return Err(refusal_of(*b, MAX_DEPTH, at));
         }
     }
     Ok(())

@@ -7,4 +7,4 @@ use Rattle.classes.proofs.class_of.Goals as goal
 -- the table is what `class_rule` speaks of, which antt computes here
 pub returns : goal.returns
 unfolding class
-returns c = class_rule c.args.b WordByte (search rules)
+returns c = class_rule c.args.b c.from.result WordByte c.from.ensures (search rules)

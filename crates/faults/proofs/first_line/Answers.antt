@@ -1,11 +1,10 @@
-use Rattle.faults.proofs.Turns.{line_ends, line_goes_on, line_is_all}
+use Rattle.std.proofs.Common.{rules, tests, ap, ◌∙◌}
+use Rattle.std.proofs.lemmas.Fn.{always_returns_same}
+use Rattle.faults.proofs.Parts.{first_part}
 use Rattle.faults.proofs.first_line.Goals as goal
 
-pub returns-then-byte-eq10 : goal.returns-then-byte-eq10
-returns-then-byte-eq10 c = line_ends c.args.text.now c.loop-i.i c.loop-i.invariant c.loop-i-test.true c.if-byte-eq10.true
-
-pub loop-i-preserved : goal.loop-i-preserved
-loop-i-preserved c = line_goes_on c.args.text.now c.loop-i.i c.loop-i.invariant c.loop-i-test.true c.if-byte-eq10.false
-
 pub returns : goal.returns
-returns c = line_is_all c.args.text.now c.loop-i.i c.loop-i.invariant c.loop-i-test.false
+returns c =
+    ap (λ part. part.now) c.unwrap_or.ensures
+    ∙ first_part _ _ _ _ _ _ c.split.ensures.rest c.split.ensures.done
+    (always_returns_same _ _ _ (λ a r q k. search (rules, tests))) c.next.ensures.steps

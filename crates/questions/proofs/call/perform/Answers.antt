@@ -1,15 +1,17 @@
-use Rattle.monitor.specs.Grids.{state_of}
-use Rattle.questions.proofs.Verdicts.{call_judged, all_judged}
+use Rattle.safety.specs.Laws.{ListsJudged}
+use Rattle.safety.proofs.Judge.{lists_judged}
+use Rattle.questions.proofs.call.perform.Given as given
 use Rattle.questions.proofs.call.perform.Goals as goal
+use Rattle.questions.proofs.call.perform.Goals.{After-subject_types}
 
-pub returns : goal.returns
-returns g c =
-    let book = c.args.book.now in
-    let m = g.B.RuleBook.meaning book in
-    let law = g.met.B.RuleBook.lawful book in
-    let grid = c.args.table.now.grid in
-    record {
-      rule = c.dispatch.ensures;
-      law = call_judged m law grid c.args.call c.args.run.now (state_of c.dispatch.new.table.grid) c.dispatch.new.run c.dispatch.result c.dispatch.ensures;
-      lists = all_judged m law grid;
-    }
+-- the law over all lists of calls needs only that the table is well-formed
+lists : (g : given.Over) (c : After-subject_types g)
+    → ListsJudged 32 (g.B.RuleBook.meaning c.args.book.now) c.args.table.now
+lists g c = lists_judged 32 (g.B.RuleBook.meaning c.args.book.now) (g.met.B.RuleBook.lawful c.args.book.now)
+    c.args.table.now c.subject_types.ensures.well_formed
+
+pub returns-in-Act-clause-lists : goal.returns-in-Act-clause-lists
+returns-in-Act-clause-lists g c = lists g (goal.at.returns-in-Act-clause-lists g c).After-subject_types
+
+pub returns-in-Ask-clause-lists : goal.returns-in-Ask-clause-lists
+returns-in-Ask-clause-lists g c = lists g (goal.at.returns-in-Ask-clause-lists g c).After-subject_types

@@ -1,66 +1,34 @@
-use Rattle.std.proofs.Common.{ℕ, ◌-◌, List, length, take, drop, subst, arith}
-use Rattle.grammar.specs.Items.{Items}
-use Rattle.words.specs.Tree.{shape, LineStands, LineFails}
-use Rattle.words.specs.declared.stop.Stop.{Stop}
-use Rattle.schemes.specs.Views.{draft_of}
-use Rattle.readings.proofs.Reached.{tail_same, reached_none, moves_on, stays_within, reached_more, reached_all, not_declared, not_read}
+use Rattle.std.proofs.Common.{◌+◌, sym, subst, arith, rules, Ok, ◌≡◌}
+use Rattle.std.proofs.lemmas.List.{take_rest}
+use Rattle.std.proofs.lemmas.Result.{err_from_is_err_and}
+use Rattle.words.specs.Tree.{shape}
+use Rattle.meaning.specs.Schemes.{line_meant}
+use Rattle.readings.specs.Results.{Failure}
+use Rattle.readings.proofs.Reached.{Reached, unchanged, was_declared, reached_more, reached_all, not_declared, not_read}
 use Rattle.readings.proofs.read.read_draft.Goals as goal
 
--- the rest of the text, as the program cuts it
-abbrev rest : List ℕ → ℕ → List ℕ
-rest text from = take (length text - from) (drop from text)
+pub returns-in_err-items : goal.returns-in_err-items
+returns-in_err-items c =
+    let p = err_from_is_err_and c.from_residual-in_err-items.result c.from_residual-in_err-items.ensures.1 in
+    rw (p.1, p.2)
+    (not_read c.args.text.now c.loop-rest.rest.now c.loop-rest.number c.loop-rest.draft c.loop-rest.invariant c.if-text-gt-MAX_TEXT.false c.line.result _ _ c.in_err-items.field-0.0 (grind arith) c.line.ensures.means c.in_err-items.ensures.cases (λ e q. search rules))
 
-stands : (text : List ℕ) (from : ℕ) (F : Items) (end : ℕ) → LineStands (rest text from) F end → LineStands (drop from text) F end
-stands text from F end h = subst (λ l. LineStands l F end) (tail_same text from) h
+pub returns-in_err-map_err : goal.returns-in_err-map_err
+returns-in_err-map_err c =
+    let p = err_from_is_err_and c.from_residual-in_err-map_err.result c.from_residual-in_err-map_err.ensures.1 in
+    rw (p.1, p.2)
+    (not_declared c.args.text.now c.loop-rest.rest.now c.loop-rest.number c.loop-rest.draft c.loop-rest.invariant c.if-text-gt-MAX_TEXT.false c.in_ok-items.end
+    (shape c.loop-rest.rest.now c.deref.result.now) c.declare_line.new.draft c.declare_line.result _ c.in_err-map_err.field-0.0
+    (rw c.deref.ensures.value (unchanged Failure c.line.result (c.in_ok-items.items, c.in_ok-items.end) _ _ c.line.ensures.means c.in_ok-items.ensures.cases)) c.declare_line.ensures c.in_err-map_err.ensures.cases (λ e q. search rules))
 
-fails : (text : List ℕ) (from : ℕ) (stop : Stop) → LineFails (rest text from) stop → LineFails (drop from text) stop
-fails text from stop h = subst (λ l. LineFails l stop) (tail_same text from) h
-
-pub loop-from-init : goal.loop-from-init
-loop-from-init c = reached_none c.args.text.now (draft_of c.in_ok-draft.draft) c.in_ok-draft.ensures
-
-pub returns-in-Err-declare_line : goal.returns-in-Err-declare_line
-returns-in-Err-declare_line c =
-    let text = c.args.text.now in
-    let from = c.loop-from.from in
-    let F = shape (rest text from) c.in-Ok.items in
-    rw c.denied.ensures
-    (not_declared text from c.loop-from.number (draft_of c.loop-from.draft) c.loop-from.invariant c.if-text-gt-MAX_TEXT.false draft_of c.in-Ok.end F (draft_of c.declare_line.new.draft)
-    c.in-Err-declare_line.denial (stands text from F c.in-Ok.end c.in-Ok.ensures.means) c.in-Err-declare_line.ensures)
-
-pub overflow_add-from : goal.overflow_add-from
-overflow_add-from c =
-    let text = c.args.text.now in
-    let from = c.loop-from.from in
-    let F = shape (rest text from) c.in-Ok.items in
-    let far = stays_within text from c.loop-from.number (draft_of c.loop-from.draft) c.loop-from.invariant c.in-Ok.end F (stands text from F c.in-Ok.end c.in-Ok.ensures.means) in
-    omega arith
-
-pub overflow_add-number : goal.overflow_add-number
-overflow_add-number c = omega (arith, c.loop-from.invariant.next, c.loop-from.invariant.few, c.loop-from.invariant.within, c.if-text-gt-MAX_TEXT.false)
-
-pub loop-from-smaller : goal.loop-from-smaller
-loop-from-smaller c =
-    let text = c.args.text.now in
-    let from = c.loop-from.from in
-    let F = shape (rest text from) c.in-Ok.items in
-    moves_on text from c.loop-from.number (draft_of c.loop-from.draft) c.loop-from.invariant c.in-Ok.end F c.loop-from-test.true (stands text from F c.in-Ok.end c.in-Ok.ensures.means)
-
-pub loop-from-preserved : goal.loop-from-preserved
-loop-from-preserved c =
-    let text = c.args.text.now in
-    let from = c.loop-from.from in
-    let F = shape (rest text from) c.in-Ok.items in
-    reached_more text from c.loop-from.number (draft_of c.loop-from.draft) c.loop-from.invariant c.in-Ok.end F (draft_of c.declare_line.new.draft)
-    (stands text from F c.in-Ok.end c.in-Ok.ensures.means) c.in_default.ensures
-
-pub returns-in-Err : goal.returns-in-Err
-returns-in-Err c =
-    let text = c.args.text.now in
-    let from = c.loop-from.from in
-    rw c.stopped.ensures
-    (not_read text from c.loop-from.number (draft_of c.loop-from.draft) c.loop-from.invariant c.if-text-gt-MAX_TEXT.false draft_of c.in-Err.stop c.loop-from-test.true
-    (fails text from c.in-Err.stop c.in-Err.ensures.means))
+pub loop-rest-preserved : goal.loop-rest-preserved
+loop-rest-preserved c =
+    let F = shape c.loop-rest.rest.now c.deref.result.now in
+    let declared : line_meant c.loop-rest.draft F ≡ Ok c.declare_line.new.draft = was_declared (line_meant c.loop-rest.draft F) c.loop-rest.draft c.declare_line.new.draft c.declare_line.result c.declare_line.ensures c.in_ok-map_err.ensures.cases in
+    subst (λ l. Reached c.args.text.now l (c.loop-rest.number + 1) c.declare_line.new.draft) (sym (take_rest c.loop-rest.rest.now c.in_ok-items.end))
+    (reached_more c.args.text.now c.loop-rest.rest.now c.loop-rest.number c.loop-rest.draft c.loop-rest.invariant c.in_ok-items.end F c.declare_line.new.draft
+    (rw c.deref.ensures.value (unchanged Failure c.line.result (c.in_ok-items.items, c.in_ok-items.end) _ _ c.line.ensures.means c.in_ok-items.ensures.cases))
+    declared)
 
 pub returns : goal.returns
-returns c = reached_all c.args.text.now c.loop-from.from c.loop-from.number (draft_of c.loop-from.draft) c.loop-from.invariant c.if-text-gt-MAX_TEXT.false c.loop-from-test.false
+returns c = reached_all c.args.text.now c.loop-rest.rest.now c.loop-rest.number c.loop-rest.draft c.loop-rest.invariant c.if-text-gt-MAX_TEXT.false (grind arith)

@@ -1,10 +1,9 @@
-use Rattle.std.proofs.Common.{◌-◌, length}
-use Rattle.schemes.specs.Views.{draft_of}
+use Rattle.std.proofs.Common.{length}
 use Rattle.readings.proofs.Reached.{Reached}
 use Rattle.readings.proofs.read.read_draft.Given as goal
 
-abbrev pub invariant-loop-from : goal.invariant-loop-from
-invariant-loop-from l = Reached l.text l.from l.number (draft_of l.draft)
+abbrev pub invariant-loop-rest : goal.invariant-loop-rest
+invariant-loop-rest l = Reached l.text l.rest l.number l.draft
 
-abbrev pub decreases-loop-from : goal.decreases-loop-from
-decreases-loop-from l = length l.text - l.from
+abbrev pub decreases-loop-rest : goal.decreases-loop-rest
+decreases-loop-rest l = length l.rest

@@ -7,10 +7,10 @@ use Rattle.std.proofs.iter.Next.{firm}
 
 pub returns : goal.returns
 returns c =
-    let H = c.args.self.now.rest.bits in
-    let r = c.in_ok-right.right.number in
+    let H = c.args.self.now.rest in
+    let r = c.in_ok-right.right in
     let found = c.in_ok-right.ensures in
-    let fewer : c.without-self.result.bits < H = omega (arith, c.without-self.ensures, remove_lt H r (lowest_in 32 H r (sym found))) in
+    let fewer : c.without-self.result < H = omega (arith, c.without-self.ensures, remove_lt H r (lowest_in 32 H r (sym found))) in
     record {
       steps = (found, c.without-self.ensures ∙ ap (leave_out H) found);
       goes = firm ((tt, tt, fewer)) (λ h. search rules);

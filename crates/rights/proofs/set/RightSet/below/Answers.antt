@@ -1,9 +1,7 @@
-use Rattle.std.proofs.Common.{◌<◌, ap, ◌∙◌, rules}
+use Rattle.std.proofs.Common.{ap, ◌∙◌}
 use Rattle.rights.specs.Sets.{below}
 use Rattle.rights.proofs.Machine.{below_word}
 use Rattle.rights.proofs.set.RightSet.below.Goals as goal
 
 pub returns : goal.returns
-returns c =
-    let l : c.number.result < 32 = search rules in
-    below_word 32 c.number.result l ∙ ap below c.number.ensures
+returns c = below_word 32 c.number.result c.number.ensures.small ∙ ap below c.number.ensures.value

@@ -4,4 +4,4 @@ use Rattle.rights.proofs.Machine.{has_word}
 use Rattle.rights.proofs.set.RightSet.contains.Goals as goal
 
 pub returns : goal.returns
-returns c = has_word c.args.self.bits c.number.result ∙ ap (has c.args.self.bits) c.number.ensures
+returns c = rw (← c.self.view_is) (has_word c.self.inside.bits c.number.result ∙ ap (has c.self.inside.bits) c.number.ensures.value)

@@ -1,7 +1,7 @@
-use Rattle.std.proofs.Common.{refl}
+use Rattle.std.proofs.Common.{rules}
 use Rattle.rights.specs.Sets.{inside}
 use Rattle.rights.proofs.set.RightSet.is_within.Goals as goal
 
 pub returns : goal.returns
 unfolding inside
-returns c = refl
+returns c = search rules

@@ -6,11 +6,11 @@ use Rattle.rights.proofs.Machine.{lowest_word, lowest_none, trailing_lt}
 use Rattle.rights.proofs.set.RightSet.lowest.Goals as goal
 
 pub returns-then-self-eq0 : goal.returns-then-self-eq0
-returns-then-self-eq0 c = sym (ap (lowest_right 32) c.if-self-eq0.true ∙ lowest_none 32)
+returns-then-self-eq0 c = rw (← c.self.view_is) (sym (ap (lowest_right 32) c.if-self-eq0.true ∙ lowest_none 32))
 
 pub returns : goal.returns
 returns c =
-    let a = c.args.self.bits in
+    let a = c.self.inside.bits in
     let some : 0 < a = omega arith in
     let fits : a < 2 ^ 32 = search rules in
     let word = lowest_word 32 a some fits in
