@@ -1,5 +1,5 @@
 // The frames of texts in the input.
-ghost use Rattle.std.specs.Prelude.{◌+◌, ◌<◌, length, IfSome};
+ghost use Rattle.std.specs.Prelude.{◌≡◌, ℕ, ◌+◌, ◌<◌, ◌++◌, length, drop, IfSome};
 
 // The number that these digits write; no digit writes 0.
 fn number(digits: &[u8]) -> Option<usize> {
@@ -17,7 +17,8 @@ fn number(digits: &[u8]) -> Option<usize> {
 
 // The first text of the input, and what follows it.
 pub fn next_text(input: &[u8]) -> Option<(&[u8], &[u8])>
-    ensures { IfSome result (λ p. length p.0.now + length p.1.now < length input.now) }
+    ensures shorter { IfSome result (λ p. length p.0.now + length p.1.now < length input.now) }
+    ensures parts { IfSome result (λ p. (k : ℕ) × (p.0.now ++ p.1.now ≡ drop k input.now)) }
 {
     let end = input.iter().position(|b| *b == b'\n')?;
     let size = number(&input[..end])?;
