@@ -4,13 +4,16 @@ ghost use Rattle.rights.specs.Limits.{max_rights, max_subject_types, max_object_
 
 use crate::limits::{MAX_OBJECT_TYPES, MAX_OBJECTS, MAX_RIGHTS, MAX_SUBJECT_TYPES, MAX_SUBJECTS};
 
-// There are at most `LIMIT` of a kind, and a byte holds the number of each.
+// There are at most `LIMIT` of a kind.
 pub trait Kind: Sized {
     const LIMIT: usize;
 
     ghost LIMIT: { ℕ };
+}
 
-    ghost fits_a_byte: { nat_le LIMIT 256 ≡ true };
+// A byte holds each number of such a kind.
+pub trait Numbered: Kind {
+    ghost fits_a_byte: { nat_le Self.LIMIT 256 ≡ true };
 }
 
 #[derive(Clone, Copy)]
@@ -20,7 +23,9 @@ impl Kind for RightKind {
     const LIMIT: usize = MAX_RIGHTS;
 
     ghost LIMIT = { max_rights };
+}
 
+impl Numbered for RightKind {
     ghost fits_a_byte = { refl };
 }
 
@@ -31,7 +36,9 @@ impl Kind for SubjectTypeKind {
     const LIMIT: usize = MAX_SUBJECT_TYPES;
 
     ghost LIMIT = { max_subject_types };
+}
 
+impl Numbered for SubjectTypeKind {
     ghost fits_a_byte = { refl };
 }
 
@@ -42,7 +49,9 @@ impl Kind for ObjectTypeKind {
     const LIMIT: usize = MAX_OBJECT_TYPES;
 
     ghost LIMIT = { max_object_types };
+}
 
+impl Numbered for ObjectTypeKind {
     ghost fits_a_byte = { refl };
 }
 
@@ -53,7 +62,9 @@ impl Kind for SubjectKind {
     const LIMIT: usize = MAX_SUBJECTS;
 
     ghost LIMIT = { max_subjects };
+}
 
+impl Numbered for SubjectKind {
     ghost fits_a_byte = { refl };
 }
 
@@ -64,6 +75,8 @@ impl Kind for ObjectKind {
     const LIMIT: usize = MAX_OBJECTS;
 
     ghost LIMIT = { max_objects };
+}
 
+impl Numbered for ObjectKind {
     ghost fits_a_byte = { refl };
 }

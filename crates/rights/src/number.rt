@@ -2,13 +2,13 @@
 ghost use Rattle.std.specs.Prelude.{◌≡◌, ◌<◌};
 ghost use Rattle.rights.specs.Refusals.{checked};
 
-use crate::kind::{Kind, ObjectTypeKind, RightKind, SubjectTypeKind};
+use crate::kind::{Numbered, ObjectTypeKind, RightKind, SubjectTypeKind};
 use crate::refusal::Refusal;
 use std::marker::{Model, PhantomData};
 
 // The number of one of a kind, below the limit of the kind.
 #[derive_where(Clone, Copy, PartialEq, Eq)]
-pub struct Number<K: Kind> {
+pub struct Number<K: Numbered> {
     number: u8,
     kind: PhantomData<K>,
 }
@@ -22,7 +22,7 @@ pub type SubjectType = Number<SubjectTypeKind>;
 // A type of objects, 0 to 15.
 pub type ObjectType = Number<ObjectTypeKind>;
 
-impl<K: Kind> Model for Number<K> {
+impl<K: Numbered> Model for Number<K> {
     ghost use Rattle.std.specs.Prelude.{ℕ, ◌<◌};
 
     ghost Value = { ℕ };
@@ -34,7 +34,7 @@ impl<K: Kind> Model for Number<K> {
     ghost inverse = { λ n. record { number = n; kind = _ } };
 }
 
-impl<K: Kind> Number<K> {
+impl<K: Numbered> Number<K> {
     pub fn new(number: usize) -> Result<Number<K>, Refusal>
         ensures { result ≡ checked K.LIMIT number }
     {

@@ -4,18 +4,18 @@ ghost use Rattle.rights.specs.Refusals.{checked, demand, settle};
 ghost use Rattle.rights.specs.declared.refusal.Refusal.TheVariants.{LimitReached};
 ghost use Rattle.rows.specs.Lists.{all_below};
 
-use rights::kind::Kind;
+use rights::kind::Numbered;
 use rights::{Number, Refusal};
 use std::marker::{Model, PhantomData};
 
 // How many of a kind are declared, and never more than there may be: the numbers below this one may be used.
 #[derive(Drop)]
-pub(crate) struct Count<K: Kind> {
+pub(crate) struct Count<K: Numbered> {
     count: usize,
     kind: PhantomData<K>,
 }
 
-impl<K: Kind> Model for Count<K> {
+impl<K: Numbered> Model for Count<K> {
     ghost use Rattle.std.specs.Prelude.{ℕ, ◌≤◌};
 
     ghost Value = { ℕ };
@@ -25,7 +25,7 @@ impl<K: Kind> Model for Count<K> {
     ghost invariant = { λ c. c.count ≤ K.LIMIT };
 }
 
-impl<K: Kind> Count<K> {
+impl<K: Numbered> Count<K> {
     pub(crate) fn none() -> Count<K>
         ensures { result ≡ 0 }
     {

@@ -3,7 +3,7 @@ use crate::probe::probes;
 use books::RuleBook;
 use entries::{Entry, Keyed};
 use faults::Fault;
-use rights::kind::{Kind, RightKind};
+use rights::kind::{Numbered, RightKind};
 use rights::{Number, ObjectType, Right, RightSet, SubjectType};
 use schemes::Scheme;
 use std::alloc::{AllocError, Global};
@@ -18,7 +18,7 @@ pub fn show_fault<W: Write>(out: &mut W, fault: Fault) -> io::Result<()> {
 }
 
 // The numbers of a kind of which so many are declared.
-fn declared<K: Kind>(heap: Global, count: usize) -> Result<Vec<Number<K>>, AllocError> {
+fn declared<K: Numbered>(heap: Global, count: usize) -> Result<Vec<Number<K>>, AllocError> {
     (0..count)
         .filter_map(|number| Number::new(number).ok())
         .collect(heap)
@@ -45,7 +45,7 @@ impl<W: Write> Printer<'_, W> {
     }
 
     // The name of this number.
-    fn name<K: Kind>(&mut self, entries: &[Entry<K>], number: Number<K>) -> io::Result<()> {
+    fn name<K: Numbered>(&mut self, entries: &[Entry<K>], number: Number<K>) -> io::Result<()> {
         match entries.get(number.number()) {
             Some(entry) => self.bytes(entry.key()),
             None => Ok(()),
