@@ -97,7 +97,7 @@ impl RightSet {
 
     // The rights in order of number.
     pub fn members(self) -> Members
-        ensures { result.rest ≡ self }
+        ensures { result ≡ self }
     {
         Members { rest: self }
     }
@@ -109,12 +109,20 @@ pub struct Members {
     rest: RightSet,
 }
 
+impl Model for Members {
+    ghost use Rattle.std.specs.Prelude.{ℕ};
+
+    ghost Value = { ℕ };
+
+    ghost view = { λ m. m.rest };
+}
+
 impl Iterator for Members {
     type Item = Right;
 
-    ghost next_gives = { λ s r t. (r ≡ lowest_right max_rights s.rest) × (t.rest ≡ leave_out s.rest (lowest_right max_rights s.rest)) };
+    ghost next_gives = { λ s r t. (r ≡ lowest_right max_rights s) × (t ≡ leave_out s (lowest_right max_rights s)) };
 
-    ghost remaining = { λ s. at_most s.rest };
+    ghost remaining = { λ s. at_most s };
 
     fn next(&mut self) -> Option<Right> {
         let right = self.rest.lowest()?;

@@ -8,7 +8,7 @@ invariant-loop-receiver g l = Passed 32 (g.B.RuleBook.meaning l.book) l.types l.
 
 abbrev pub invariant-loop-right : goal.invariant-loop-right
 invariant-loop-right g l = Left ((g.B.RuleBook.meaning l.book).may_add l.to l.column.kind l.held) l.held
-    (Add l.receiver) l.right-iterator.rest
+    (Add l.receiver) l.right-iterator
 
 abbrev pub invariant-loop-giver : goal.invariant-loop-giver
 invariant-loop-giver g l =
@@ -20,4 +20,4 @@ invariant-loop-giver g l =
 
 abbrev pub invariant-loop-right-2 : goal.invariant-loop-right-2
 invariant-loop-right-2 g l = Left (given 32 (g.B.RuleBook.meaning l.book) l.types l.column l.to l.giver) l.held
-    (Give l.giver l.receiver) l.right-iterator.rest
+    (Give l.giver l.receiver) l.right-iterator
