@@ -52,8 +52,8 @@ fn gather(
     ensures { result ≡ gathered by receiver on held rows.now }
 {
     rows.iter()
-        .filter(|row| row.applies(by, receiver, on, held))
-        .fold(RightSet::empty(), |all, row| all.union(row.gives))
+        .map(|row| row.given(by, receiver, on, held))
+        .fold(RightSet::empty(), |all, given| all.union(given))
 }
 
 impl RuleBook for RowBook {

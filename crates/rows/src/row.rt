@@ -1,5 +1,6 @@
 // Rows of a rule book.
-ghost use Rattle.std.specs.Prelude.{◌≡◌};
+ghost use Rattle.std.specs.Prelude.{◌≡◌, cond};
+ghost use Rattle.rights.specs.Sets.{nothing};
 ghost use Rattle.rows.specs.Rules.{applies, is_pair};
 
 use rights::{ObjectType, RightSet, SubjectType};
@@ -38,6 +39,23 @@ impl Row {
         ensures { result ≡ applies by receiver on held self.now }
     {
         self.by == by && self.receiver == receiver && self.on == on && self.need.is_within(held)
+    }
+
+    // What it gives, if it applies.
+    pub(crate) fn given(
+        &self,
+        by: SubjectType,
+        receiver: Option<SubjectType>,
+        on: ObjectType,
+        held: RightSet,
+    ) -> RightSet
+        ensures { result ≡ cond (applies by receiver on held self.now) self.now.gives nothing }
+    {
+        if self.applies(by, receiver, on, held) {
+            self.gives
+        } else {
+            RightSet::empty()
+        }
     }
 }
 
