@@ -40,10 +40,10 @@ module _ (w : ℕ) (m : Meaning) (S : State) (s t r : ℕ) where
         { type = t; cells = fresh (length S.subjects) c rights }))))
         ∙ (λ k. onward (sym start k) (ahead w m (most_moves w) (field_of S.subjects s r (sym count k) (sym column k)))) ∙ sym here
 
-  module _ (o : ℕ) (count : o ≡ length S.objects) (room : o < 64) where
+  module _ (room : length S.objects < 64) where
     with_room : shown w m S (CanNew s t r) ≡ find_new w m S s t r
-    with_room = cond-true (ltb (length S.objects) 64) (find_new w m S s t r) None (ap (λ n. ltb n 64) (sym count) ∙
-        lt-ltb o 64 room)
+    with_room = cond-true (ltb (length S.objects) 64) (find_new w m S s t r) None (lt-ltb
+        (length S.objects) 64 room)
 
     pub found_from : (c : ℕ) (run : List Step) → c < length S.subjects → Clear from c → from c ≡ Some run
         → Some run ≡ shown w m S (CanNew s t r)

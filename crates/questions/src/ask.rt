@@ -1,6 +1,6 @@
 // The two questions.
-ghost use Rattle.std.specs.Prelude.{◌≡◌, ℕ, ◌<◌, ◌≤◌, [], length, Ok, cond, nat_le};
-ghost use Rattle.rights.specs.Limits.{max_rights, max_subjects};
+ghost use Rattle.std.specs.Prelude.{◌≡◌, ℕ, ◌<◌, ◌≤◌, true, [], length, Ok, cond, nat_le};
+ghost use Rattle.rights.specs.Limits.{max_rights, max_subjects, max_objects};
 ghost use Rattle.rights.specs.Refusals.{demand, on_ok};
 ghost use Rattle.rights.specs.declared.refusal.Refusal.TheVariants.{OutOfRange, TooShort};
 ghost use Rattle.monitor.specs.Columns.{object_of};
@@ -9,7 +9,7 @@ ghost use Rattle.safety.specs.declared.question.Reply.TheVariants.{Refused};
 ghost use Rattle.safety.specs.Rule.{fresh, shown};
 ghost use Rattle.safety.specs.Questions.{in_range, list_places, told};
 ghost use Rattle.questions.specs.Fields.{if_found};
-ghost use Rattle.questions.specs.Places.{run_of};
+ghost use Rattle.questions.specs.Places.{room_in, run_of};
 
 use crate::asked::{Asked, Place};
 use crate::run::{RUN_PLACES, Run};
@@ -49,16 +49,24 @@ impl<'a, B: RuleBook> Asked<'a, B> {
         })
     }
 
+    // Is there room for the object? One that stands has its place.
+    fn has_room(&self) -> bool
+        ensures { result ≡ room_in self.now.table.now self.now.place }
+    {
+        match self.place {
+            Place::Old(..) => true,
+            Place::New(_) => self.table.objects() < MAX_OBJECTS,
+        }
+    }
+
     // The run for a new object: a create by the first creator whose object serves, and the steps behind it.
     fn find_new(&self, kind: ObjectType, run: &mut Run) -> bool
+        requires { length self.now.table.now.objects < max_objects }
         ensures { if_found result run.new
             ≡ shown max_rights (B.RuleBook.meaning self.now.book.now) self.now.table.now
             (CanNew self.now.subject kind self.now.right) }
     {
         let object = self.table.objects();
-        if object >= MAX_OBJECTS {
-            return false;
-        }
         for (creator, own) in self.table.subject_types().iter().enumerate() {
             let Some(rights) = self.book.creation(*own, kind) else {
                 continue;
@@ -79,7 +87,8 @@ impl<'a, B: RuleBook> Asked<'a, B> {
     // The run that an answer shows, if there is one.
     // A run is lent and not returned: returned by value, its 80 KB made a short can seven times slower.
     fn find(&self, run: &mut Run) -> bool
-        requires { run.old ≡ [] }
+        requires room { room_in self.now.table.now self.now.place ≡ true }
+        requires empty { run.old ≡ [] }
         ensures { if_found result run.new ≡ run_of max_rights (B.RuleBook.meaning self.now.book.now) self.now }
     {
         match self.place {
@@ -97,6 +106,10 @@ impl<'a, B: RuleBook> Asked<'a, B> {
     {
         if list.len() < RUN_PLACES {
             return Reply::Refused(Refusal::TooShort);
+        }
+        // A full table is answered before a run is made, which costs more than this whole answer.
+        if !self.has_room() {
+            return Reply::Never;
         }
         let mut run = Run::new();
         if self.find(&mut run) {

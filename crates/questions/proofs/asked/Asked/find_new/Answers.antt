@@ -23,8 +23,7 @@ returns-then-reach g c =
     c.subject_types-own-items.result.now types.value c.loop-creator-test.true c.own-item.is
     c.in-Some.rights c.objects-object.result column c.push.new.self (Some c.reach.new.run) c.in-Some.ensures
     c.objects-object.ensures (c.fresh_column-column.ensures (length S.subjects) lu few) run reached in
-    found_from 32 m S asked.subject c.args.kind asked.right c.objects-object.result c.objects-object.ensures
-    c.if-object-ge-MAX_OBJECTS.false u c.reach.new.run lu c.loop-creator.invariant here
+    found_from 32 m S asked.subject c.args.kind asked.right c.requires u c.reach.new.run lu c.loop-creator.invariant here
 
 pub returns : goal.returns
 returns g c =
@@ -37,5 +36,4 @@ returns g c =
       ap length
           c.subject_types-own-items.ensures.value,
     ) in
-    none_found 32 m S asked.subject c.args.kind asked.right c.objects-object.result c.objects-object.ensures
-    c.if-object-ge-MAX_OBJECTS.false (clear_to _ _ _ all c.loop-creator.invariant)
+    none_found 32 m S asked.subject c.args.kind asked.right c.requires (clear_to _ _ _ all c.loop-creator.invariant)
