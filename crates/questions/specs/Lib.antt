@@ -1,3 +1,4 @@
 pub mod Fields
 pub mod Moves
 pub mod Places
+pub mod Standing

@@ -1,14 +1,13 @@
 -- What is asked, by the place that is looked at.
-use Rattle.std.specs.Prelude.{ℕ, Bool, true, List, length, Option, nat_lt}
-use Rattle.rights.specs.Limits.{max_objects}
+use Rattle.std.specs.Prelude.{ℕ, List, length, Option}
 use Rattle.books.specs.Meaning.{Meaning}
 use Rattle.monitor.specs.declared.column.Column.{Column}
 use Rattle.monitor.specs.declared.step.Step.{Step}
-use Rattle.monitor.specs.States.{State}
 use Rattle.monitor.specs.Columns.{object_of}
-use Rattle.safety.specs.declared.question.Question.TheVariants.{CanNew}
-use Rattle.safety.specs.Rule.{most_moves, shown}
-use Rattle.questions.specs.Fields.{Field, field_of, ahead}
+use Rattle.safety.specs.declared.question.Question.{Question}
+use Rattle.safety.specs.declared.question.Question.TheVariants.{Can, CanNew}
+use Rattle.safety.specs.Rule.{shown}
+use Rattle.questions.specs.Fields.{Field, field_of}
 use Rattle.questions.specs.declared.asked.Asked.{Asked}
 use Rattle.questions.specs.declared.asked.Place.{Place}
 use Rattle.questions.specs.declared.asked.Place.TheVariants.{Old, New}
@@ -18,15 +17,10 @@ abbrev pub field_in : {B : Type 0} → Asked B → ℕ → Column → Field
 field_in a o column =
     field_of a.table.now.subjects a.subject a.right o (object_of (length a.table.now.subjects) column)
 
--- is there room for the object?
-abbrev pub room_in : State → Place → Bool
-room_in S (Old o column) = true
-room_in S (New t) = nat_lt (length S.objects) max_objects
-
-abbrev pub run_at : {B : Type 0} → ℕ → Meaning → Asked B → Place → Option (List Step)
-run_at w m a (Old o column) = ahead w m (most_moves w) (field_in a o column)
-run_at w m a (New t) = shown w m a.table.now (CanNew a.subject t a.right)
+abbrev pub question_at : {B : Type 0} → Asked B → Place → Question
+question_at a (Old o) = Can a.subject o a.right
+question_at a (New t) = CanNew a.subject t a.right
 
 -- the run that is shown for it, under what its book means
 abbrev pub run_of : {B : Type 0} → ℕ → Meaning → Asked B → Option (List Step)
-run_of w m a = run_at w m a a.place
+run_of w m a = shown w m a.table.now (question_at a a.place)

@@ -9,7 +9,8 @@ ghost use Rattle.safety.specs.declared.question.Reply.TheVariants.{Refused};
 ghost use Rattle.safety.specs.Rule.{fresh, shown};
 ghost use Rattle.safety.specs.Questions.{in_range, list_places, told};
 ghost use Rattle.questions.specs.Fields.{if_found};
-ghost use Rattle.questions.specs.Places.{room_in, run_of};
+ghost use Rattle.questions.specs.Places.{run_of};
+ghost use Rattle.questions.specs.Standing.{room_in};
 
 use crate::asked::{Asked, Place};
 use crate::run::{RUN_PLACES, Run};
@@ -37,7 +38,8 @@ impl<'a, B: RuleBook> Asked<'a, B> {
         }
         let right = Right::new(right)?;
         let place = match question {
-            Question::Can { object, .. } => Place::Old(object, table.column(object)?),
+            Question::Can { object, .. } if object < table.objects() => Place::Old(object),
+            Question::Can { .. } => return Err(Refusal::OutOfRange),
             Question::CanNew { kind, .. } => Place::New(ObjectType::new(kind)?),
         };
         Ok(Asked {
@@ -54,7 +56,7 @@ impl<'a, B: RuleBook> Asked<'a, B> {
         ensures { result ≡ room_in self.now.table.now self.now.place }
     {
         match self.place {
-            Place::Old(..) => true,
+            Place::Old(_) => true,
             Place::New(_) => self.table.objects() < MAX_OBJECTS,
         }
     }
@@ -92,8 +94,28 @@ impl<'a, B: RuleBook> Asked<'a, B> {
         ensures { if_found result run.new ≡ run_of max_rights (B.RuleBook.meaning self.now.book.now) self.now }
     {
         match self.place {
-            Place::Old(object, column) => Search::new(self, object, column).reach(run),
+            Place::Old(object) => {
+                let column = self.table.column(object).unwrap();
+                Search::new(self, object, column).reach(run)
+            }
             Place::New(kind) => self.find_new(kind, run),
+        }
+    }
+
+    // The answer by a search. It stands out of line, so that only a search pays for a run: a function pays for the size
+    // of its locals as soon as it is entered.
+    #[inline(never)]
+    fn look(&self, list: &mut [Step]) -> Reply
+        requires room { room_in self.now.table.now self.now.place ≡ true }
+        requires long { list_places max_rights ≤ length list.old }
+        ensures { (list.new, result)
+            ≡ told list.old (run_of max_rights (B.RuleBook.meaning self.now.book.now) self.now) }
+    {
+        let mut run = Run::new();
+        if self.find(&mut run) {
+            run.tell(list)
+        } else {
+            Reply::Never
         }
     }
 
@@ -111,12 +133,7 @@ impl<'a, B: RuleBook> Asked<'a, B> {
         if !self.has_room() {
             return Reply::Never;
         }
-        let mut run = Run::new();
-        if self.find(&mut run) {
-            run.tell(list)
-        } else {
-            Reply::Never
-        }
+        self.look(list)
     }
 }
 

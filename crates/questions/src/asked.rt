@@ -1,14 +1,15 @@
 // What a question asks for.
-ghost use Rattle.std.specs.Prelude.{◌<◌, ◌≤◌, length};
+ghost use Rattle.std.specs.Prelude.{◌≡◌, ◌<◌, ◌≤◌, true, length};
 ghost use Rattle.rights.specs.Limits.{max_subjects};
+ghost use Rattle.questions.specs.Standing.{stands_in};
 
-use monitor::{Column, Table};
+use monitor::Table;
 use rights::{ObjectType, Right};
 
 // Where the asked holding is to come: in the column of an object of the table, or in that of a new object of this type.
 #[derive(Clone, Copy)]
 pub(crate) enum Place {
-    Old(usize, Column),
+    Old(usize),
     New(ObjectType),
 }
 
@@ -22,4 +23,5 @@ pub(crate) struct Asked<'a, B> {
     pub(crate) place: Place,
     ghost subject_stands: { subject < length table.now.subjects },
     ghost few_subjects: { length table.now.subjects ≤ max_subjects },
+    ghost place_stands: { stands_in table.now place ≡ true },
 }
