@@ -77,41 +77,37 @@ fn at_colon(text: &str) -> Result<(&str, &str), Fault> {
     text.split_once(':').ok_or(Fault::Unreadable)
 }
 
-// What a row needs and what it gives.
-fn read_need(heap: Global, text: &str) -> Result<(Vec<usize>, Vec<usize>), Fault> {
-    let (need, gives) = at_colon(text)?;
-    Ok((read_numbers(heap, need)?, read_numbers(heap, gives)?))
-}
-
-// A creation or a row: types, and the lists behind the first colon.
-fn read_row(heap: Global, name: &str, text: &str) -> Result<Declaration, Fault> {
-    let (types, lists) = at_colon(text)?;
-    let types = read_numbers(heap, types)?;
-    match (name, types.as_slice()) {
-        ("creation", &[creator, object]) => Ok(Declaration::Creation {
+// A creation: types, and behind the colon what the creator gets.
+fn read_creation(heap: Global, text: &str) -> Result<Declaration, Fault> {
+    let (types, gets) = at_colon(text)?;
+    match read_numbers(heap, types)?.as_slice() {
+        &[creator, object] => Ok(Declaration::Creation {
             creator,
             object,
-            gets: read_numbers(heap, lists)?,
+            gets: read_numbers(heap, gets)?,
         }),
-        ("transform", &[subject, object]) => {
-            let (need, gives) = read_need(heap, lists)?;
-            Ok(Declaration::Transform {
-                subject,
-                object,
-                need,
-                gives,
-            })
-        }
-        ("grant", &[giver, receiver, object]) => {
-            let (need, gives) = read_need(heap, lists)?;
-            Ok(Declaration::Grant {
-                giver,
-                receiver,
-                object,
-                need,
-                gives,
-            })
-        }
+        _ => Err(Fault::Unreadable),
+    }
+}
+
+// A row: types, what it needs and what it gives. Both colons are found first: a line without them wants no memory.
+fn read_row(heap: Global, name: &str, text: &str) -> Result<Declaration, Fault> {
+    let (types, lists) = at_colon(text)?;
+    let (need, gives) = at_colon(lists)?;
+    match (name, read_numbers(heap, types)?.as_slice()) {
+        ("transform", &[subject, object]) => Ok(Declaration::Transform {
+            subject,
+            object,
+            need: read_numbers(heap, need)?,
+            gives: read_numbers(heap, gives)?,
+        }),
+        ("grant", &[giver, receiver, object]) => Ok(Declaration::Grant {
+            giver,
+            receiver,
+            object,
+            need: read_numbers(heap, need)?,
+            gives: read_numbers(heap, gives)?,
+        }),
         _ => Err(Fault::Unreadable),
     }
 }
@@ -268,7 +264,8 @@ impl Command {
     pub fn read(heap: Global, line: &str) -> Result<Command, Fault> {
         let (name, rest) = line.split_once(' ').unwrap_or((line, ""));
         match name {
-            "creation" | "transform" | "grant" => Ok(Command::Declare(read_row(heap, name, rest)?)),
+            "creation" => Ok(Command::Declare(read_creation(heap, rest)?)),
+            "transform" | "grant" => Ok(Command::Declare(read_row(heap, name, rest)?)),
             "flags" => Ok(Command::Flags(read_settings(rest)?)),
             _ => plain(name, &read_numbers(heap, rest)?).ok_or(Fault::Unreadable),
         }
