@@ -97,11 +97,18 @@ impl Reader<'_> {
         let mut at = from;
         loop {
             let (item, end) = self.item(at, room)?;
-            items.push(item)?;
             let b = self.byte(end)?;
             match b as char {
-                ')' => return Ok((items, end + 1)),
-                ' ' => at = end + 1,
+                ')' => {
+                    // The last item wants no room beside it.
+                    items.reserve_exact(1)?;
+                    items.push(item)?;
+                    return Ok((items, end + 1));
+                }
+                ' ' => {
+                    items.push(item)?;
+                    at = end + 1;
+                }
                 _ => return Err(stop(refusal_of(b, room, 0), end)),
             }
         }

@@ -59,7 +59,7 @@ pub list-returns-in-41 : goal.list-returns-in-41
 list-returns-in-41 t c =
     let text = c.args.self.now.text.now in
     let I = c.loop-items.invariant in
-    rw (c.in_ok-push.ensures.items, shape_push text c.loop-items.items.items c.in_ok-item.item)
+    rw (c.in_ok-push-in-41.ensures.items, c.in_ok-reserve_exact-in-41.ensures.items, shape_push text c.loop-items.items.items c.in_ok-item.item)
     (list_close text c.args.from (8 - c.args.room) (shape text c.loop-items.items.items) c.loop-items.at I.leads _ c.in_ok-item.end (c.in_ok-item.ensures _ I.due)
     c.in_ok-b.b c.in_ok-b.ensures I.from_on c.in-41.is)
 
@@ -73,7 +73,7 @@ list-loop-items-preserved t c =
     let text = c.args.self.now.text.now in
     let I = c.loop-items.invariant in
     let R = c.in_ok-item.ensures _ I.due in
-    rw (c.in_ok-push.ensures.items, shape_push text c.loop-items.items.items c.in_ok-item.item) (record {
+    rw (c.in_ok-push-in-32.ensures.items, shape_push text c.loop-items.items.items c.in_ok-item.item) (record {
       from_on = omega (arith, R.later, I.from_on);
       within = omega (arith, c.in_ok-b.ensures.0);
       due = λ e b. R.some e;
