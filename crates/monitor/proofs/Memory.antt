@@ -5,7 +5,7 @@ use Rattle.std.proofs.lemmas.List.{map-set, map_push, take_more, get_or-map, tak
 use Rattle.std.proofs.lemmas.Grind.{common_steps}
 use Rattle.std.proofs.lemmas.List.Elements.{All-head, All-tail}
 use Rattle.rights.specs.Sets.{nothing}
-use Rattle.monitor.specs.declared.column.Column.{Column}
+use Rattle.monitor.specs.Columns.{Cells}
 use Rattle.monitor.specs.declared.table.Table.TheInside.{Inside}
 use Rattle.monitor.specs.States.{State, no_object, with_subject, with_object, with_cell, WellFormed}
 use Rattle.monitor.specs.Columns.{object_of, Blank}
@@ -17,11 +17,11 @@ take_set_lt (suc n) [] i a h = refl
 take_set_lt (suc n) (y ∷ ys) zero a h = refl
 take_set_lt (suc n) (y ∷ ys) (suc i) a h = ap (λ t. y ∷ t) (take_set_lt n ys i a (omega arith))
 
-abbrev pub table : List ℕ → List Column → State
+abbrev pub table : List ℕ → List Cells → State
 table types columns = record { subjects = types; objects = map (object_of (length types)) columns }
 
 -- one cell written
-pub table_put : (types : List ℕ) (cs : List Column) (s o x : ℕ) (c : Column)
+pub table_put : (types : List ℕ) (cs : List Cells) (s o x : ℕ) (c : Cells)
     → s < length types → o < length cs → c ≡ get_or cs o c
     → table types (set cs o (record { kind = c.kind; cells = set c.cells s x })) ≡ with_cell (table types cs) s o x
 table_put types cs s o x c ls lo here =
@@ -30,10 +30,10 @@ table_put types cs s o x c ls lo here =
     rw (map-set, take_set_lt, read)
 
 -- a column pushed, in which nobody holds anything
-abbrev pub fresh : ℕ → Column
+abbrev pub fresh : ℕ → Cells
 fresh kind = record { kind = kind; cells = replicate 64 nothing }
 
-pub table_object : (types : List ℕ) (cs : List Column) (kind : ℕ) → length types ≤ 64
+pub table_object : (types : List ℕ) (cs : List Cells) (kind : ℕ) → length types ≤ 64
     → table types (cs ++ fresh kind ∷ []) ≡ with_object (table types cs) kind
 table_object types cs kind l = rw (map_push, take-replicate)
 
@@ -44,7 +44,7 @@ pub fresh_blank : (n kind : ℕ) → Blank n (fresh kind)
 fresh_blank n kind = record { full = length-replicate 64 nothing; rest = λ s h. all_empty 64 s }
 
 -- a subject pushed
-widened : (n : ℕ) (cs : List Column) → n < 64 → All (Blank n) cs
+widened : (n : ℕ) (cs : List Cells) → n < 64 → All (Blank n) cs
     → map (object_of (n + 1)) cs
     ≡ map (λ x. record { type = x.type; cells = x.cells ++ nothing ∷ [] }) (map (object_of n) cs)
 widened n [] l blank = refl
@@ -54,7 +54,7 @@ widened n (c ∷ cs) l blank =
     = take_more c.cells n nothing (omega (arith, here.full)) ∙ rw (here.rest n (omega arith)) in
     rw (more, widened n cs l (All-tail (Blank n) c cs blank))
 
-pub table_subject : (types : List ℕ) (kind : ℕ) (cs : List Column)
+pub table_subject : (types : List ℕ) (kind : ℕ) (cs : List Cells)
     → length types < 64 → All (Blank (length types)) cs
     → table (types ++ kind ∷ []) cs ≡ with_subject (table types cs) kind
 table_subject types kind cs l blank = rw (length_push types kind, widened (length types) cs l blank)

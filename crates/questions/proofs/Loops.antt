@@ -8,11 +8,16 @@ use Rattle.rights.proofs.Found.{first_is, first_is_none}
 use Rattle.rights.proofs.SetLaws.{removed, remove_only, inside_within}
 use Rattle.rights.proofs.Truth.{true_T, T_true}
 use Rattle.books.specs.Meaning.{Meaning}
-use Rattle.monitor.specs.declared.column.Column.{Column}
+use Rattle.monitor.specs.Columns.{Cells}
+use Rattle.monitor.specs.declared.column.Column.TheInside.{Inside}
 use Rattle.safety.specs.declared.question.Move.{Move}
 use Rattle.safety.specs.declared.question.Move.TheVariants.{Add, Give}
 use Rattle.safety.specs.Rule.{held, try, next_to, next}
 use Rattle.safety.proofs.Splits.{Split, first_split}
+
+-- what a column is seen as
+abbrev pub seen : Inside → Cells
+seen c = record { kind = c.kind; cells = c.cells }
 
 -- f gives nothing below i
 abbrev pub Clear : {A : Type 0} → (ℕ → Option A) → ℕ → Type 0
@@ -107,7 +112,7 @@ module _ (allowed held : ℕ) (v : ℕ → Move) where
         first_is w (offer allowed held v) r (v r) found.0 (fresh r (left.inside r found.1) (sym here)) (λ q l.
         left.gone q (found.2 q l))
 
-module _ (w : ℕ) (m : Meaning) (types : List ℕ) (column : Column) where
+module _ (w : ℕ) (m : Meaning) (types : List ℕ) (column : Cells) where
   abbrev pub t : ℕ
   t = column.kind
 

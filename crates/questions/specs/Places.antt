@@ -1,7 +1,7 @@
 -- What is asked, by the place that is looked at.
 use Rattle.std.specs.Prelude.{ℕ, List, length, Option}
 use Rattle.books.specs.Meaning.{Meaning}
-use Rattle.monitor.specs.declared.column.Column.{Column}
+use Rattle.monitor.specs.Columns.{Cells}
 use Rattle.monitor.specs.declared.step.Step.{Step}
 use Rattle.monitor.specs.Columns.{object_of}
 use Rattle.safety.specs.declared.question.Question.{Question}
@@ -13,7 +13,7 @@ use Rattle.questions.specs.declared.asked.Place.{Place}
 use Rattle.questions.specs.declared.asked.Place.TheVariants.{Old, New}
 
 -- what a search for it works on, in this column
-abbrev pub field_in : {B : Type 0} → Asked B → ℕ → Column → Field
+abbrev pub field_in : {B : Type 0} → Asked B → ℕ → Cells → Field
 field_in a o column =
     field_of a.table.now.subjects a.subject a.right o (object_of (length a.table.now.subjects) column)
 

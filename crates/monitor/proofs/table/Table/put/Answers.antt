@@ -12,4 +12,5 @@ returns c =
     let stands = rw (← c.self.view_is) at c.requires in
     let ls : s < length ts = grind (arith, common_steps) in
     let lo : o < length cs = grind (arith, common_steps) in
-    rw (← c.self.view_is) (table_put ts cs s o c.args.rights c.index_mut.result.now ls lo c.index_mut.ensures.value)
+    let value = rw (← c.rights.view_is) at c.index_mut.ensures.value in
+    rw (← c.self.view_is) (table_put ts cs s o c.args.rights _ ls lo value)
