@@ -1,3 +1,4 @@
 mod Ends
 mod Parts
+mod Turns
 mod Found
