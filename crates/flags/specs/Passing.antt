@@ -1,6 +1,6 @@
--- What held flags pass on, said flag by flag, and that more held rights pass on more.
-use Rattle.std.specs.Prelude.{◌≡◌, ℕ, zero, suc, ◌≤◌, Bool, true, false, cond, ◌&&◌, T, ◌⊎◌}
-use Rattle.std.proofs.Common.{sym, subst, inl, inr, arith}
+-- What held flags pass on: one flag more, the same said flag by flag, and that more held rights pass on more.
+use Rattle.std.specs.Prelude.{◌≡◌, ℕ, zero, suc, ◌-◌, ◌≤◌, Bool, true, false, cond, ◌&&◌, T, ◌⊎◌, refl}
+use Rattle.std.proofs.Common.{sym, ap, subst, ◌∙◌, inl, inr, arith}
 use Rattle.std.proofs.lemmas.Bool.{cases_eq}
 use Rattle.rights.specs.Sets.{nothing, has, add, either, below, Within}
 use Rattle.rights.proofs.Truth.{t_or, or_T_left, or_T_right, T_and, and_T}
@@ -8,6 +8,19 @@ use Rattle.rights.proofs.SetLaws.{joined, none_has, add_has, add_keeps, add_only
 use Rattle.books.specs.Meaning.{Lawful}
 use Rattle.flags.specs.declared.settings.Settings.{Settings}
 use Rattle.flags.specs.Flags.{access_right, unlimited_flag, chosen, flag_gives, counted_give, unlimited_gives, flags_give, holds_flag, flags_meaning, ByCounted, ByUnlimited, PassesOn, HoldsCounted, AddsAccess, FlagsMean}
+
+-- no flag yet
+pub counted_none : (held : ℕ) → counted_give 0 held ≡ nothing
+unfolding counted_give
+counted_none held = refl
+
+-- one turn of a loop over the flags 1, 2, .., where it goes on and where it ends
+pub counted_next : (k held m : ℕ) → 1 ≤ k → m ≡ k → either (counted_give (k - 1) held) (flag_gives k held) ≡ counted_give m held
+unfolding counted_give
+counted_next zero held m l e = absurd (omega arith)
+counted_next (suc j) held m l e =
+    let last : suc j - 1 ≡ j = omega arith in
+    ap (λ x. either (counted_give x held) (flag_gives (suc j) held)) last ∙ sym (ap (λ x. counted_give x held) e)
 
 -- a set given under a condition
 when_has : (t : Bool) (x r : ℕ) → T (has (cond t x nothing) r) → T t × T (has x r)

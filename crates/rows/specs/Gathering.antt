@@ -9,13 +9,13 @@ use Rattle.rights.proofs.SetLaws.{joined, none_has, either_within, when_within, 
 use Rattle.books.specs.Meaning.{Lawful}
 use Rattle.rows.specs.Rules.{Rule, Book, applies, gathered, book_meaning, no_rule, Gives, Given, RulesMean}
 
-same_option : (a b : Option ℕ) → T (option_eq nat_eq a b) → a ≡ b
+pub same_option : (a b : Option ℕ) → T (option_eq nat_eq a b) → a ≡ b
 same_option None None t = refl
 same_option None (Some v) t = absurd t
 same_option (Some u) None t = absurd t
 same_option (Some u) (Some v) t = ap Some (eqb→eq u v t)
 
-option_refl : (a : Option ℕ) → T (option_eq nat_eq a a)
+pub option_refl : (a : Option ℕ) → T (option_eq nat_eq a a)
 option_refl None = tt
 option_refl (Some u) = eqb_refl u
 
