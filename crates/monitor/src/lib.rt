@@ -1,7 +1,7 @@
 // The table of rights and its monitor.
 #![tactic(auto)]
 
-mod cells;
+pub mod cells;
 pub mod column;
 pub mod draft;
 pub mod step;
