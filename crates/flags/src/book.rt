@@ -1,7 +1,7 @@
 // The copy-flag book: a counted flag passes on the access and lower flags, and the unlimited flag all of them and itself.
-ghost use Rattle.std.specs.Prelude.{◌≡◌, ◌<◌};
+ghost use Rattle.std.specs.Prelude.{◌≡◌, ◌<◌, ◌≤◌};
 ghost use Rattle.rights.specs.Limits.{max_rights};
-ghost use Rattle.flags.specs.Flags.{admitted, flag_gives, counted_give, unlimited_gives, flags_give, fresh_right, flags_meaning};
+ghost use Rattle.flags.specs.Flags.{most_flags, admitted, flag_gives, counted_give, unlimited_gives, flags_give, fresh_right, flags_meaning};
 ghost use Rattle.flags.specs.Passing.{flags_lawful};
 
 use crate::settings::{FreshFlag, Settings};
@@ -63,6 +63,15 @@ impl CopyFlagBook {
             return Err(Refusal::OutOfRange);
         }
         Ok(CopyFlagBook { settings })
+    }
+
+    // What the book is set to.
+    pub fn settings(&self) -> Settings
+        ensures value { result ≡ self.now }
+        ensures some { 1 ≤ result.flags }
+        ensures few { result.flags ≤ most_flags }
+    {
+        self.settings
     }
 
     // What the counted flags among the held rights give.

@@ -1,6 +1,6 @@
 // The table, and the monitor that performs or refuses steps on it.
 ghost use Rattle.std.specs.Prelude.{◌≡◌, IfOk, ◌≤◌, true, length, Ok};
-ghost use Rattle.rights.specs.Limits.{max_rights, max_subjects};
+ghost use Rattle.rights.specs.Limits.{max_rights, max_subjects, max_objects};
 ghost use Rattle.rights.specs.Refusals.{demand, on_ok};
 ghost use Rattle.rights.specs.declared.refusal.Refusal.TheVariants.{OutOfRange};
 ghost use Rattle.monitor.specs.declared.step.Step.TheVariants.{Create, Transform, Grant, Revoke};
@@ -62,7 +62,8 @@ impl Table {
 
     // How many objects stand.
     pub fn objects(&self) -> usize
-        ensures { result ≡ length self.now.objects }
+        ensures value { result ≡ length self.now.objects }
+        ensures few { result ≤ max_objects }
     {
         self.columns.len()
     }

@@ -37,7 +37,8 @@ impl<K: Numbered> Count<K> {
 
     // One more. The answer is its number.
     pub(crate) fn add(&mut self) -> Result<usize, Refusal>
-        ensures { (self.new, result) ≡ settle self.old (demand (nat_lt self.old K.LIMIT) LimitReached (Ok (self.old + 1, self.old))) }
+        ensures value { (self.new, result) ≡ settle self.old (demand (nat_lt self.old K.LIMIT) LimitReached (Ok (self.old + 1, self.old))) }
+        ensures few { self.new ≤ K.LIMIT }
     {
         let number = self.count;
         if number >= K::LIMIT {

@@ -1,11 +1,12 @@
 // The declarations of a draft. Each takes any numbers, and is refused by the first test that fails: a number that is not
 // declared (10), something declared already (8), an empty need (9), a limit (20). A refused one alters nothing.
-ghost use Rattle.std.specs.Prelude.{◌≡◌, true, not, IfOk, Some, None, Ok};
+ghost use Rattle.std.specs.Prelude.{◌≡◌, ◌≤◌, true, false, not, map, length, IfOk, Some, None, Ok};
 ghost use Rattle.std.specs.Option.{option_map, option_transpose};
-ghost use Rattle.rights.specs.Limits.{max_rights};
+ghost use Rattle.rights.specs.Limits.{max_rights, max_subject_types, max_object_types, max_rows};
 ghost use Rattle.rights.specs.Refusals.{checked, demand};
 ghost use Rattle.rights.specs.declared.refusal.Refusal.TheVariants.{Repeated, OutOfRange};
 ghost use Rattle.rows.specs.Lists.{twice, all_below, set_of};
+ghost use Rattle.rows.specs.Room.{pair_number};
 ghost use Rattle.rows.specs.Drafts.{nothing_declared, declare_right, declare_subject_type, declare_object_type, declare_owner, declare_creation, declare_row, receiver_declared};
 
 use crate::book::RowBook;
@@ -46,19 +47,22 @@ impl Draft {
 
     // One more right. The answer is its number.
     pub fn add_right(&mut self) -> Result<usize, Refusal>
-        ensures { (self.new, result) ≡ declare_right self.old }
+        ensures value { (self.new, result) ≡ declare_right self.old }
+        ensures few { self.new.counts.rights ≤ max_rights }
     {
         self.rights.add()
     }
 
     pub fn add_subject_type(&mut self) -> Result<usize, Refusal>
-        ensures { (self.new, result) ≡ declare_subject_type self.old }
+        ensures value { (self.new, result) ≡ declare_subject_type self.old }
+        ensures few { self.new.counts.subject_types ≤ max_subject_types }
     {
         self.subject_types.add()
     }
 
     pub fn add_object_type(&mut self) -> Result<usize, Refusal>
-        ensures { (self.new, result) ≡ declare_object_type self.old }
+        ensures value { (self.new, result) ≡ declare_object_type self.old }
+        ensures few { self.new.counts.object_types ≤ max_object_types }
     {
         self.object_types.add()
     }
@@ -159,8 +163,13 @@ impl Draft {
 
     // The draft as a book.
     pub fn fix(self) -> RowBook
-        ensures { result ≡ self.book }
+        ensures value { result ≡ self.book }
+        ensures few { length result.rules ≤ max_rows }
+        ensures apart { twice (map pair_number result.creations) ≡ false }
     {
-        RowBook { table: self.table }
+        let table = self.table;
+        // What is known of every table, a proof knows of one that is looked into.
+        let _ = &table.rows;
+        RowBook { table }
     }
 }

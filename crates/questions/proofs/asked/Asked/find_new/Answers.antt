@@ -22,7 +22,7 @@ returns-then-reach g c =
     let here = run_from 32 m S asked.subject c.args.kind asked.right u c.own-item.result
     c.subject_types-own-items.result.now types.value c.loop-creator-test.true c.own-item.is
     c.in-Some.rights c.objects-object.result column c.push.new.self (Some c.reach.new.run) c.in-Some.ensures
-    c.objects-object.ensures (c.fresh_column-column.ensures (length S.subjects) lu few) run reached in
+    c.objects-object.ensures.value (c.fresh_column-column.ensures (length S.subjects) lu few) run reached in
     found_from 32 m S asked.subject c.args.kind asked.right c.requires u c.reach.new.run lu c.loop-creator.invariant here
 
 pub returns : goal.returns
