@@ -1,4 +1,5 @@
 // The forms of a scheme text, by places in their line.
+pub use crate::head::Head;
 use words::Word;
 
 #[derive(Drop)]
