@@ -1,4 +1,3 @@
 mod Ends
 mod Parts
-mod Turns
 mod Found

@@ -46,19 +46,9 @@ fn from_line(text: &[u8], line: usize) -> &[u8]
     ensures within { length result.now ≤ length text.now }
     ensures rest { result.now ≡ from_line line text.now }
 {
-    let mut left = line;
-    for (at, byte) in text.iter().enumerate() {
-        if left == 0 {
-            break;
-        }
-        if left == 1 {
-            return &text[at..];
-        }
-        if *byte == b'\n' {
-            left -= 1;
-        }
-    }
-    &text[text.len()..]
+    text.splitn(line, |byte| *byte == b'\n')
+        .nth(line.saturating_sub(1))
+        .unwrap_or(&text[text.len()..])
 }
 
 // The faulty line, as a part of the text that the fault names: where it begins, and its bytes without the line end. A
