@@ -1,5 +1,8 @@
 // The fixed book: rows that answer questions.
-ghost use Rattle.std.specs.Prelude.{◌≡◌, IfOk};
+ghost use Rattle.std.specs.Prelude.{◌≡◌, ◌≤◌, false, map, length, IfOk};
+ghost use Rattle.rights.specs.Limits.{max_rows};
+ghost use Rattle.rows.specs.Lists.{twice};
+ghost use Rattle.rows.specs.Room.{pair_number};
 ghost use Rattle.rows.specs.Rules.{gathered, book_meaning, empty_book};
 ghost use Rattle.rows.specs.Gathering.{book_lawful};
 
@@ -38,6 +41,16 @@ impl RowBook {
         ensures { self.new ≡ empty_book }
     {
         self.table.clear();
+    }
+
+    // How many rows it has. What is true of every book is said here: it has no more than there may be, and no pair of
+    // types has two creations.
+    pub fn rows(&self) -> usize
+        ensures value { result ≡ length self.now.rules }
+        ensures few { result ≤ max_rows }
+        ensures apart { twice (map pair_number self.now.creations) ≡ false }
+    {
+        self.table.rows.len()
     }
 }
 
