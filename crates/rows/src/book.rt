@@ -64,9 +64,9 @@ fn gather(
 ) -> RightSet
     ensures { result ≡ gathered by receiver on held rows.now }
 {
-    rows.iter()
-        .map(|row| row.given(by, receiver, on, held))
-        .fold(RightSet::empty(), |all, given| all.union(given))
+    rows.iter().fold(RightSet::empty(), |all, row| {
+        all.union(row.given(by, receiver, on, held))
+    })
 }
 
 impl RuleBook for RowBook {

@@ -120,7 +120,9 @@ impl<W: Write> Printer<'_, W> {
         self.set(gets)
     }
 
-    // What the book answers to who holds this set, where that is something.
+    // What the book answers to who holds this set, where that is something. It stands out of line, so that the loop over
+    // the book's rows keeps what it compares with in registers.
+    #[inline(never)]
     fn answer(&mut self, asked: &Asked, held: RightSet) -> io::Result<()> {
         let Asked { by, to, on } = *asked;
         let book = self.scheme.book();
