@@ -1,5 +1,5 @@
 // Reading and writing the memory of a table.
-ghost use Rattle.std.specs.Prelude.{◌≡◌, ◌<◌, true, length, IfOk, Ok};
+ghost use Rattle.std.specs.Prelude.{◌≡◌, ◌<◌, ◌≤◌, true, length, IfOk, Ok};
 ghost use Rattle.rights.specs.Limits.{max_subjects, max_objects};
 ghost use Rattle.rights.specs.Refusals.{demand, settle};
 ghost use Rattle.rights.specs.declared.refusal.Refusal.TheVariants.{OutOfRange};
@@ -39,7 +39,8 @@ impl Table {
 
     // One more object, for which nobody holds anything: its number, unless there are as many as there may be.
     pub(crate) fn new_object(&mut self, kind: ObjectType) -> Result<usize, Refusal>
-        ensures { (self.new, result) ≡ settle self.old (more_objects self.old kind) }
+        ensures value { (self.new, result) ≡ settle self.old (more_objects self.old kind) }
+        ensures few { length self.new.objects ≤ max_objects }
     {
         let number = self.columns.len();
         if number >= MAX_OBJECTS {
@@ -59,7 +60,8 @@ impl Table {
 
     // One more subject, which holds nothing: its number, unless there are as many as there may be.
     pub(crate) fn new_subject(&mut self, kind: SubjectType) -> Result<usize, Refusal>
-        ensures { (self.new, result) ≡ settle self.old (more_subjects self.old kind) }
+        ensures value { (self.new, result) ≡ settle self.old (more_subjects self.old kind) }
+        ensures few { length self.new.subjects ≤ max_subjects }
     {
         let number = self.subjects.len();
         if number >= MAX_SUBJECTS {

@@ -1,6 +1,6 @@
 // A table being built.
-ghost use Rattle.std.specs.Prelude.{◌≡◌, IfOk};
-ghost use Rattle.rights.specs.Limits.{max_rights};
+ghost use Rattle.std.specs.Prelude.{◌≡◌, ◌≤◌, length, IfOk};
+ghost use Rattle.rights.specs.Limits.{max_rights, max_subjects, max_objects};
 ghost use Rattle.monitor.specs.States.{empty_table};
 ghost use Rattle.monitor.specs.Machine.{build_subject, build_object, build_holding};
 
@@ -33,16 +33,21 @@ impl TableDraft {
 
     // One more subject, which holds nothing. The answer is its number.
     pub fn add_subject(&mut self, kind: usize) -> Result<usize, Refusal>
-        ensures { (self.new, result) ≡ build_subject self.old kind }
+        ensures value { (self.new, result) ≡ build_subject self.old kind }
+        ensures few { length self.new.subjects ≤ max_subjects }
     {
+        // What is true of every table, a proof knows of one that is looked into.
+        let _ = &self.table.subjects;
         let kind = SubjectType::new(kind)?;
         self.table.new_subject(kind)
     }
 
     // One more object, for which nobody holds anything. The answer is its number.
     pub fn add_object(&mut self, kind: usize) -> Result<usize, Refusal>
-        ensures { (self.new, result) ≡ build_object self.old kind }
+        ensures value { (self.new, result) ≡ build_object self.old kind }
+        ensures few { length self.new.objects ≤ max_objects }
     {
+        let _ = &self.table.columns;
         let kind = ObjectType::new(kind)?;
         self.table.new_object(kind)
     }

@@ -1,7 +1,8 @@
 // The declarations of a scheme. Each is refused by the first test that fails: a new name that is no word (2, 5 or else
 // 3), a number that is not declared (10), something declared already (8), an empty need (9), a limit (20). A refused
 // one, or one that finds no memory for a name, alters nothing.
-ghost use Rattle.std.specs.Prelude.{◌≡◌, IfOk, Some, None};
+ghost use Rattle.std.specs.Prelude.{◌≡◌, ◌≤◌, length, IfOk, Some, None};
+ghost use Rattle.rights.specs.Limits.{max_rights, max_subject_types, max_object_types};
 ghost use Rattle.rights.specs.Refusals.{settle};
 ghost use Rattle.entries.specs.Lookup.{place_of};
 ghost use Rattle.meaning.specs.Named.{nothing_named};
@@ -54,7 +55,8 @@ impl SchemeDraft {
 
     // One more right under a name of its own. The answer is its number.
     pub fn add_right(&mut self, heap: Global, name: &[u8]) -> Result<usize, Denial>
-        ensures { CarriedOut (right_named self.old name.now) self.old self.new result }
+        ensures value { CarriedOut (right_named self.old name.now) self.old self.new result }
+        ensures few { length self.new.names.rights ≤ max_rights }
     {
         let taken = self.right(name).is_some();
         self.names.rights.enter(heap, taken, name)?;
@@ -62,7 +64,8 @@ impl SchemeDraft {
     }
 
     pub fn add_subject_type(&mut self, heap: Global, name: &[u8]) -> Result<usize, Denial>
-        ensures { CarriedOut (subject_type_named self.old name.now) self.old self.new result }
+        ensures value { CarriedOut (subject_type_named self.old name.now) self.old self.new result }
+        ensures few { length self.new.names.subject_types ≤ max_subject_types }
     {
         let taken = self.has_type(name);
         self.names.subject_types.enter(heap, taken, name)?;
@@ -70,7 +73,8 @@ impl SchemeDraft {
     }
 
     pub fn add_object_type(&mut self, heap: Global, name: &[u8]) -> Result<usize, Denial>
-        ensures { CarriedOut (object_type_named self.old name.now) self.old self.new result }
+        ensures value { CarriedOut (object_type_named self.old name.now) self.old self.new result }
+        ensures few { length self.new.names.object_types ≤ max_object_types }
     {
         let taken = self.has_type(name);
         self.names.object_types.enter(heap, taken, name)?;

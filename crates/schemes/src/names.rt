@@ -1,5 +1,5 @@
 // The names of rights and types, each at its number.
-ghost use Rattle.std.specs.Prelude.{◌≡◌, []};
+ghost use Rattle.std.specs.Prelude.{◌≡◌, ◌≤◌, [], length};
 ghost use Rattle.entries.specs.Lookup.{place_of};
 ghost use Rattle.meaning.specs.Named.{nothing_named};
 ghost use Rattle.schemes.specs.Calls.{CarriedOut, entered};
@@ -11,18 +11,20 @@ use std::alloc::Global;
 use std::marker::Model;
 use words::{Denial, test_word};
 
-// The names of one kind.
+// The names of one kind, and never more than there may be.
 #[derive(Drop)]
 pub struct Names<K: Kind> {
     entries: Vec<Entry<K>>,
 }
 
 impl<K: Kind> Model for Names<K> {
-    ghost use Rattle.std.specs.Prelude.{ℕ, List, vec_items};
+    ghost use Rattle.std.specs.Prelude.{ℕ, ◌≤◌, List, vec_items, vec_len};
 
     ghost Value = { List (List ℕ) };
 
     ghost view = { λ n. vec_items n.entries };
+
+    ghost invariant = { λ n. vec_len n.entries ≤ K.LIMIT };
 }
 
 impl<K: Kind> Names<K> {
@@ -43,8 +45,11 @@ impl<K: Kind> Names<K> {
 
     // One more name, which has to be a word and not taken, unless there are as many as there may be.
     pub fn enter(&mut self, heap: Global, taken: bool, name: &[u8]) -> Result<(), Denial>
-        ensures { CarriedOut (entered self.old taken name.now K.LIMIT) self.old self.new result }
+        ensures value { CarriedOut (entered self.old taken name.now K.LIMIT) self.old self.new result }
+        ensures few { length self.new ≤ K.LIMIT }
     {
+        // What is true of every list of names, a proof knows of one that is looked into.
+        let _ = &self.entries;
         test_word(name)?;
         if taken {
             return Err(Denial::Because(Refusal::Repeated));
